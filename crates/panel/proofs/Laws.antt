@@ -1,0 +1,272 @@
+-- Laws of the panel check.
+use Prim.Native.Nat.{ℕ, zero, suc, _+_, _-_, _*_, _/_, _≤_, _<_}
+use native.Mathlib.Omega.{arith}
+use mathlib.Core.Path.{_≡_, refl, sym, ap, _∙_}
+use mathlib.Core.Bool.{Bool, true, false, not, _&&_, _||_, and-false}
+use mathlib.Core.List.{List, [], _∷_}
+use lib.Dec.{leb, ltb, eqb}
+use lib.ListN.{length, drop, take, getD, length-drop}
+use lib.Seq.{getD-take, getD-drop, length-take-le}
+use borrow.Author.Tests.{le-leb, lt-leb, leb-true, lt-ltb, le-ltb, ltb-true, ltb-false, leb-false, ne-eqb}
+use Rattle.ground.specs.Lists.{each, split, sum, all, any, count, rising, numbersFrom}
+use Rattle.storage.specs.Records.{portOf}
+use Rattle.storage.specs.Orders.{portOrder, wordOrder, numOrder, flagOrder, andThen, orderIf}
+use Rattle.storage.specs.declared.Order.{Order}
+use Rattle.storage.specs.declared.Order.the-variants.{Less, Equal, Greater}
+use Rattle.storage.specs.declared.Port.{Port}
+use Rattle.ground.proofs.ListLaws.{both, each-length, each-from, place-fits, all-at, Rises, rising-rises, Falls, Cut, cut-up, cut-down, any-at, numbers-at, numbers-length}
+use Rattle.image.proofs.Laws.{row-length, rows-length, entries-length, lane-port-is, lane-index}
+use native.Mathlib.Nat.{eq-or-lt-of-le}
+use mathlib.Core.Logic.{_⊎_, inl, inr}
+use Rattle.image.specs.declared.Header.{Header}
+use Rattle.image.specs.declared.Entry.{Entry}
+use Rattle.image.specs.declared.Lane.{Lane}
+use Rattle.image.specs.Image.{entries, counts, lanePorts, portsOf, hub, noEntry, Framed, Counted, Stands}
+use Rattle.storage.specs.Records.{noPort}
+use Rattle.panel.specs.Panel.{lengthOk, sound4, letter, soundPort, soundRecord, soundRecords, isTrue, turn, place, placeLt, hubLt, hubRising, laneRising, lanesRising, isEqual, samePort, listed, sound8, placeBelow, Ordered, Accepted, from, ownRow, ownRows, sound6, sound7}
+
+-- ---- 6
+
+pub letter-else : (b : ℕ) → (b ≡ 65 → ⊥) → (b ≡ 67 → ⊥) → (b ≡ 71 → ⊥) → (b ≡ 84 → ⊥) → false ≡ letter b
+unfolding letter
+letter-else b f g h k = rw (ne-eqb b 65 f, ne-eqb b 67 g, ne-eqb b 71 h, ne-eqb b 84 k)
+
+module _ (s : List ℕ) (at k : ℕ) where
+  pub letters-length : at + k ≤ length s → length (take k (drop at s)) ≡ k
+  letters-length h = length-take-le k (drop at s) (rw length-drop (omega arith))
+
+  -- a letter as the code reads it
+  pub letter-read : (i : ℕ) (r : Bool) → i < k → r ≡ letter (getD s (at + i) 0) → r ≡ letter (getD (take k (drop at s)) i 0)
+  letter-read i r lt e = e ∙ rw (getD-take k (drop at s) i 0 lt, getD-drop at s i 0)
+
+leb-minus : (a k n : ℕ) → k ≤ n → leb a (n - k) ≡ leb (a + k) n
+leb-minus a k n h = go (leb a (n - k)) refl
+  where
+    go : (t : Bool) → leb a (n - k) ≡ t → leb a (n - k) ≡ leb (a + k) n
+    go true e = let q = leb-true a (n - k) e in e ∙ sym (le-leb (a + k) n (omega arith))
+    go false e = let q = leb-false a (n - k) e in e ∙ sym (lt-leb (a + k) n (omega arith))
+
+module _ (s : List ℕ) (h : Header) (p : Port) where
+  pub port-unnamed : h .lanes ≤ p .source → false ≡ soundPort h s p
+  unfolding soundPort
+  port-unnamed l = rw (le-ltb (p .source) (h .lanes) l)
+
+  module _ (named : p .source < h .lanes) (e : Entry) (is : e ≡ getD (entries h s) (p .source) noEntry) where
+    pub port-short : e .len < h .k → false ≡ soundPort h s p
+    unfolding soundPort
+    port-short l = rw (lt-ltb (p .source) (h .lanes) named, ← is, lt-leb (p .anchor + h .k) (e .len) (omega arith))
+
+    pub port-fits : h .k ≤ e .len → leb (p .anchor) (e .len - h .k) ≡ soundPort h s p
+    unfolding soundPort
+    port-fits l = leb-minus (p .anchor) (h .k) (e .len) l ∙ rw (lt-ltb (p .source) (h .lanes) named, ← is)
+
+pub record-told : (s : List ℕ) (h : Header) (at : ℕ) (p : Port) (a c d r : Bool) → a ≡ all letter (take (h .k) (drop at s)) → p ≡ portOf (h .k) (drop at s) → c ≡ soundPort h s p
+    → d ≡ (a && leb (getD s (at + h .k + 16) 0) 1) → r ≡ (d && c) → r ≡ soundRecord h s (drop at s)
+unfolding soundRecord
+record-told s h at p a c d r ea ep ec ed er =
+    let e : at + h .k + 16 ≡ at + (h .k + 16) = omega arith in
+    rw (er, ed, ea, ec, ep, getD-drop at s (h .k + 16) 0, e)
+
+pub record-of-told : (s : List ℕ) (h : Header) (base i : ℕ) (r : Bool) → i < h .ports → r ≡ soundRecord h s (drop (base + i * (h .k + 17)) s)
+    → r ≡ getD (each (soundRecord h s) (h .k + 17) (h .ports) (drop base s)) i true
+record-of-told s h base i r l e = e ∙ sym (each-from (soundRecord h s) (h .k + 17) true (h .ports) s base i l)
+
+pub marks-length : (s : List ℕ) (h : Header) (base : ℕ) → length (each (soundRecord h s) (h .k + 17) (h .ports) (drop base s)) ≡ h .ports
+marks-length s h base = each-length (soundRecord h s) (h .k + 17) true (h .ports) (drop base s)
+
+-- ---- 7
+
+pub turn-small : (b : Bool) → turn b ≤ 1
+turn-small true = omega arith
+turn-small false = omega arith
+
+module _ (a b : Port) where
+  pub place-less : a .anchor < b .anchor → true ≡ placeLt a b
+  unfolding placeLt place
+  place-less l = sym (lt-ltb (2 * a .anchor + turn (a .reverse)) (2 * b .anchor + turn (b .reverse)) (omega (arith, turn-small (a .reverse))))
+
+  pub place-more : b .anchor < a .anchor → false ≡ placeLt a b
+  unfolding placeLt place
+  place-more l = sym (le-ltb (2 * a .anchor + turn (a .reverse)) (2 * b .anchor + turn (b .reverse)) (omega (arith, turn-small (b .reverse))))
+
+  module _ (le : b .anchor ≤ a .anchor) (ge : a .anchor ≤ b .anchor) where
+    pub place-turned : a .reverse ≡ true → false ≡ placeLt a b
+    unfolding placeLt place
+    place-turned e =
+        let f : turn (a .reverse) ≡ 1 = ap turn e in
+        sym (le-ltb (2 * a .anchor + turn (a .reverse)) (2 * b .anchor + turn (b .reverse)) (omega (arith, turn-small (b .reverse))))
+
+    pub place-turn : a .reverse ≡ false → b .reverse ≡ placeLt a b
+    unfolding placeLt place
+    place-turn e = go (b .reverse) refl
+      where
+        f : turn (a .reverse) ≡ 0
+        f = ap turn e
+
+        go : (t : Bool) → b .reverse ≡ t → b .reverse ≡ ltb (2 * a .anchor + turn (a .reverse)) (2 * b .anchor + turn (b .reverse))
+        go true q = let g : turn (b .reverse) ≡ 1 = ap turn q in q ∙ sym (lt-ltb (2 * a .anchor + turn (a .reverse)) (2 * b .anchor + turn (b .reverse)) (omega (arith, f)))
+        go false q = let g : turn (b .reverse) ≡ 0 = ap turn q in q ∙ sym (le-ltb (2 * a .anchor + turn (a .reverse)) (2 * b .anchor + turn (b .reverse)) (omega (arith, f)))
+
+-- ---- a lane's list by place
+
+place-less-of : (a b : Port) → placeLt a b ≡ true → place a < place b
+unfolding placeLt
+place-less-of a b e = ltb-true (place a) (place b) e
+
+pub lane-rises : (l : List Port) → laneRising l ≡ true → Rises place l noPort
+unfolding laneRising
+lane-rises l e = rising-rises place placeLt place-less-of noPort l e
+
+below-falls : (g : Port) (l : List Port) → laneRising l ≡ true → Falls (placeBelow g) l noPort
+unfolding placeBelow placeLt
+below-falls g l e p q le m t = go (eq-or-lt-of-le le)
+  where
+    top : place (getD l q noPort) < place g
+    top = ltb-true (place (getD l q noPort)) (place g) t
+
+    go : (p ≡ q) ⊎ (p < q) → ltb (place (getD l p noPort)) (place g) ≡ true
+    go (inl same) = rw same t
+    go (inr lt) = let r = lane-rises l e p q lt m in lt-ltb (place (getD l p noPort)) (place g) (omega (arith, top))
+
+module _ (s : List ℕ) (h : Header) (l : Lane) (g : Port) (lo hi : ℕ) (x : Port) (r : Bool) (stands : Stands s h l) (rises : laneRising (portsOf h s (l .number)) ≡ true)
+    (so : Cut (placeBelow g) (portsOf h s (l .number)) noPort (l .count) lo hi) (lt : lo < hi) (is : x ≡ getD (portsOf h s (l .number)) (lo + (hi - lo) / 2) noPort) (test : r ≡ placeLt x g) where
+  pub places-up : r ≡ true → Cut (placeBelow g) (portsOf h s (l .number)) noPort (l .count) (lo + (hi - lo) / 2 + 1) hi
+  unfolding placeBelow
+  places-up = cut-up (placeBelow g) (portsOf h s (l .number)) noPort (l .count) lo hi x r so lt is test (row-length s h l stands) (below-falls g (portsOf h s (l .number)) rises)
+
+  pub places-down : r ≡ false → Cut (placeBelow g) (portsOf h s (l .number)) noPort (l .count) lo (lo + (hi - lo) / 2)
+  unfolding placeBelow
+  places-down = cut-down (placeBelow g) (portsOf h s (l .number)) noPort (l .count) lo hi x r so lt is test (row-length s h l stands) (below-falls g (portsOf h s (l .number)) rises)
+
+-- ---- 8
+
+and-equal : (a b : Order) → andThen a b ≡ Equal → (a ≡ Equal) × (b ≡ Equal)
+and-equal Less b e = (e, cc)
+and-equal Equal b e = (refl, e)
+and-equal Greater b e = (e, cc)
+
+num-same : (x y : ℕ) → numOrder x y ≡ Equal → x ≡ y
+num-same x y e = go (ltb x y) (ltb y x) refl refl e
+  where
+    go : (a b : Bool) → ltb x y ≡ a → ltb y x ≡ b → orderIf a Less (orderIf b Greater Equal) ≡ Equal → x ≡ y
+    go true b p q h = let z : _≡_ {A = ℕ} 0 1 = cc in absurd (omega arith)
+    go false true p q h = let z : _≡_ {A = ℕ} 0 1 = cc in absurd (omega arith)
+    go false false p q h = let l = ltb-false x y p in let m = ltb-false y x q in omega arith
+
+flag-same : (x y : Bool) → flagOrder x y ≡ Equal → x ≡ y
+flag-same true true e = refl
+flag-same true false e = cc
+flag-same false true e = cc
+flag-same false false e = refl
+
+equal-of : (o : Order) → isEqual o ≡ true → o ≡ Equal
+equal-of Less e = cc
+equal-of Equal e = refl
+equal-of Greater e = cc
+
+same-place : (g a : Port) → samePort g a ≡ true → place a ≡ place g
+unfolding samePort portOrder place
+same-place g a e =
+    let tail = and-equal (wordOrder (g .word) (a .word)) _ (equal-of _ e) .1 in
+    let more = and-equal (numOrder (g .source) (a .source)) (andThen (numOrder (g .anchor) (a .anchor)) (flagOrder (g .reverse) (a .reverse))) tail .1 in
+    let both-of = and-equal (numOrder (g .anchor) (a .anchor)) (flagOrder (g .reverse) (a .reverse)) more in
+    let n = num-same (g .anchor) (a .anchor) (both-of .0) in
+    let f : turn (g .reverse) ≡ turn (a .reverse) = ap turn (flag-same (g .reverse) (a .reverse) (both-of .1)) in
+    omega arith
+
+below-is : (g a : Port) → placeBelow g a ≡ ltb (place a) (place g)
+unfolding placeBelow placeLt
+below-is g a = refl
+
+listed-is : (s : List ℕ) (h : Header) (g : Port) (n : ℕ) → n ≡ g .source → laneRising (portsOf h s n) ≡ true
+    → listed h s g ≡ (ltb (count (placeBelow g) (portsOf h s n)) (length (portsOf h s n)) && samePort g (getD (portsOf h s n) (count (placeBelow g) (portsOf h s n)) noPort))
+unfolding listed
+listed-is s h g n e rises =
+    ap (λ (m : ℕ). any (samePort g) (portsOf h s m)) (sym e)
+    ∙ any-at place noPort (samePort g) (placeBelow g) (place g) (same-place g) (below-is g) (portsOf h s n) (lane-rises (portsOf h s n) rises)
+
+module _ (s : List ℕ) (h : Header) (g : Port) (l : Lane) (i : ℕ) (stands : Stands s h l) (e : l .number ≡ g .source) (rows : lanesRising h s ≡ true)
+    (at : i ≡ count (placeBelow g) (portsOf h s (l .number))) where
+  pub row-rising : laneRising (portsOf h s (l .number)) ≡ true
+  unfolding lanesRising portsOf
+  row-rising =
+      let room : l .number < length (split (counts h s) (lanePorts h s)) = rw (rows-length s h (stands .counted .framed)) (stands .lane) in
+      all-at [] laneRising (split (counts h s) (lanePorts h s)) (l .number) rows room
+
+  pub listed-told : (p : Port) (r : Bool) → i < l .count → p ≡ getD (portsOf h s (l .number)) i noPort → r ≡ samePort g p → r ≡ listed h s g
+  listed-told p r lt is t =
+      let n = row-length s h l stands in
+      let room : i < length (portsOf h s (l .number)) = omega arith in
+      t ∙ rw is (sym (listed-is s h g (l .number) e row-rising ∙ rw (← at, lt-ltb i (length (portsOf h s (l .number))) room)))
+
+  pub listed-none : l .count ≤ i → false ≡ listed h s g
+  listed-none le =
+      let n = row-length s h l stands in
+      let none : length (portsOf h s (l .number)) ≤ i = omega arith in
+      sym (listed-is s h g (l .number) e row-rising ∙ rw (← at, le-ltb i (length (portsOf h s (l .number))) none))
+
+-- the row of a lane rises, before anything is looked for in it
+pub row-rises : (s : List ℕ) (h : Header) (l : Lane) → Stands s h l → lanesRising h s ≡ true → laneRising (portsOf h s (l .number)) ≡ true
+row-rises s h l stands rows = row-rising s h (record { word = []; source = l .number; anchor = 0; reverse = false }) l _ stands refl rows refl
+
+pub hub-named : (s : List ℕ) (h : Header) (i : ℕ) (g : Port) → Ordered s h → i < h .ports → g ≡ getD (hub h s) i noPort → g .source < h .lanes
+unfolding hub soundRecords soundRecord soundPort
+hub-named s h i g o lt is =
+    let k = h .k in
+    let at = drop (h .«hub_at» + i * (h .k + 17)) s in
+    let room : i < length (each (soundRecord h s) (h .k + 17) (h .ports) (drop (h .«hub_at») s)) = rw (marks-length s h (h .«hub_at»)) lt in
+    let told = all-at true isTrue (each (soundRecord h s) (h .k + 17) (h .ports) (drop (h .«hub_at») s)) i (o .named) room in
+    let mark : soundRecord h s at ≡ true = sym (each-from (soundRecord h s) (h .k + 17) true (h .ports) s (h .«hub_at») i lt) ∙ told in
+    let port : g ≡ portOf (h .k) at = is ∙ each-from (portOf (h .k)) (h .k + 17) noPort (h .ports) s (h .«hub_at») i lt in
+    let m = both (all letter (take (h .k) at) && leb (getD at (h .k + 16) 0) 1) (soundPort h s (portOf (h .k) at)) mark .1 in
+    let n = both (ltb (portOf (h .k) at .source) (h .lanes)) (leb (portOf (h .k) at .anchor + h .k) (getD (entries h s) (portOf (h .k) at .source) noEntry .len)) m .0 in
+    let e : g .source ≡ portOf (h .k) at .source = ap (λ (p : Port). p .source) port in
+    let b = ltb-true (portOf (h .k) at .source) (h .lanes) n in
+    omega arith
+
+pub number-told : (s : List ℕ) (h : Header) (l : Lane) (lane : ℕ) (r : Bool) → l .number ≡ lane → r ≡ laneRising (portsOf h s (l .number)) → r ≡ laneRising (portsOf h s lane)
+number-told s h l lane r e t = t ∙ ap (λ (n : ℕ). laneRising (portsOf h s n)) e
+
+pub listed-at-told : (s : List ℕ) (h : Header) (i : ℕ) (g : Port) (r : Bool) → g ≡ getD (hub h s) i noPort → r ≡ listed h s g → r ≡ listed h s (getD (hub h s) i noPort)
+listed-at-told s h i g r e t = t ∙ ap (listed h s) e
+
+-- ---- what the tests say of one record
+
+pub record-sound : (s : List ℕ) (h : Header) (base j : ℕ) → soundRecords h s base ≡ true → j < h .ports
+    → soundPort h s (getD (each (portOf (h .k)) (h .k + 17) (h .ports) (drop base s)) j noPort) ≡ true
+unfolding soundRecords soundRecord
+record-sound s h base j e lt =
+    let at = drop (base + j * (h .k + 17)) s in
+    let room : j < length (each (soundRecord h s) (h .k + 17) (h .ports) (drop base s)) = rw (marks-length s h base) lt in
+    let told = all-at true isTrue (each (soundRecord h s) (h .k + 17) (h .ports) (drop base s)) j e room in
+    let mark : soundRecord h s at ≡ true = sym (each-from (soundRecord h s) (h .k + 17) true (h .ports) s base j lt) ∙ told in
+    let port = each-from (portOf (h .k)) (h .k + 17) noPort (h .ports) s base j lt in
+    ap (soundPort h s) port ∙ both (all letter (take (h .k) at) && leb (getD at (h .k + 16) 0) 1) (soundPort h s (portOf (h .k) at)) mark .1
+
+pub port-small : (s : List ℕ) (h : Header) (p : Port) → Framed s h → all lengthOk (entries h s) ≡ true → soundPort h s p ≡ true → p .anchor + h .k ≤ 4294967295
+unfolding soundPort lengthOk
+port-small s h p f lengths e =
+    let (named, fits) = both (ltb (p .source) (h .lanes)) (leb (p .anchor + h .k) (getD (entries h s) (p .source) noEntry .len)) e in
+    let n = ltb-true (p .source) (h .lanes) named in
+    let room : p .source < length (entries h s) = rw (entries-length s h f) n in
+    let ok = all-at noEntry lengthOk (entries h s) (p .source) lengths room in
+    let most = both (leb 1 (getD (entries h s) (p .source) noEntry .len)) (leb (getD (entries h s) (p .source) noEntry .len) 4294967295) ok .1 in
+    let a = leb-true (p .anchor + h .k) (getD (entries h s) (p .source) noEntry .len) fits in
+    let b = leb-true (getD (entries h s) (p .source) noEntry .len) 4294967295 most in
+    omega arith
+
+pub lane-port-sound : (s : List ℕ) (h : Header) (l : Lane) (i : ℕ) (p : Port) → Accepted s h → Stands s h l → i < l .count → p ≡ getD (portsOf h s (l .number)) i noPort → soundPort h s p ≡ true
+lane-port-sound s h l i p acc st lt e =
+    let same = lane-port-is s h l st i _ lt refl in
+    ap (soundPort h s) (e ∙ sym same) ∙ record-sound s h (h .«lane_ports_at») (l .start + i) (acc .laneRecords) (lane-index s h l st i lt)
+
+pub lane-port-small : (s : List ℕ) (h : Header) (l : Lane) (i : ℕ) (p : Port) → Accepted s h → Stands s h l → i < l .count → p ≡ getD (portsOf h s (l .number)) i noPort → p .anchor + h .k ≤ 4294967295
+lane-port-small s h l i p acc st lt e = port-small s h p (acc .counted .framed) (acc .lengths) (lane-port-sound s h l i p acc st lt e)
+
+pub own-told : (s : List ℕ) (h : Header) (l : Lane) (lane : ℕ) (r : Bool) → lane < h .lanes → l .number ≡ lane → r ≡ ownRow h s (l .number) → r ≡ ownRow h s (getD (numbersFrom 0 (h .lanes)) lane 0)
+own-told s h l lane r lt e t =
+    let same : l .number ≡ getD (numbersFrom 0 (h .lanes)) lane 0 = (let q = numbers-at 0 (h .lanes) lane lt in omega arith) in
+    t ∙ ap (ownRow h s) same
+
+pub lanes-numbers : (h : Header) → length (numbersFrom 0 (h .lanes)) ≡ h .lanes
+lanes-numbers h = numbers-length 0 (h .lanes)

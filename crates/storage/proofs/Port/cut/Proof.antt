@@ -1,0 +1,23 @@
+use borrow.Author.Needs.{needs}
+use Rattle.storage.proofs.Port.cut.Statement.{statement}
+use Rattle.storage.proofs.Port.cut.Tie as tie
+use Rattle.storage.proofs.Port.cut.Reads as reads
+use Rattle.storage.proofs.Port.cut.Lts as lts
+
+sub-result : tie.Need-sub-result
+sub-result c = search needs
+
+add-result : tie.Need-add-result
+add-result c = search needs
+
+add-result-2 : tie.Need-add-result-2
+add-result-2 c = search needs
+
+returns : tie.Need-returns
+returns c = cc
+
+returns-2 : tie.Need-returns-2
+returns-2 c = rw (c .before .if1 .left)
+
+pub cut-spec : {M : Type 1} → statement M
+cut-spec = tie.close (tie.spec sub-result add-result add-result-2 returns returns-2)
