@@ -6,7 +6,8 @@ ghost use mathlib.Core.List.{[]};
 ghost use lib.Dec.{leb, eqb};
 ghost use lib.ListN.{length, drop, getD};
 ghost use Rattle.ground.specs.Lists.{sum, all, any};
-ghost use Rattle.image.specs.Image.{Framed, Grouped, Groups, pathCounts, paths, families, pathsOf};
+ghost use Rattle.image.specs.Image.{pathCounts, paths, families, pathsOf};
+ghost use Rattle.image.specs.Inner.{Framed, Grouped, Groups};
 ghost use Rattle.families.specs.Families.{countOk, names, noTwice, sound5a, sound5b, sound5};
 
 fn is_count(image: &[u8], h: image::Header, i: usize) -> bool
@@ -122,22 +123,17 @@ fn is_distinct(image: &[u8], h: image::Header, f: image::Family) -> bool
     true
 }
 
-fn is_family(image: &[u8], h: image::Header, number: usize) -> bool
-    requires { ⌜ Grouped (now image) h × (number < h .families) ⌝ }
-    ensures { λ r. ⌜ r ≡ noTwice (pathsOf h (now (image .entry)) number) ⌝ }
-{
-    let f = image::family_of(image, h, number);
-    is_distinct(image, h, f)
-}
-
 fn are_families(image: &[u8], h: image::Header) -> bool
     requires { ⌜ Grouped (now image) h ⌝ }
     ensures { λ r. ⌜ r ≡ all noTwice (families h (now (image .entry))) ⌝ }
 {
     let n = h.families;
+    let mut start = 0;
     let mut i = 0;
     while i < n {
-        if is_family(image, h, i) {
+        let f = image::family_from(image, h, i, start);
+        if is_distinct(image, h, f) {
+            start = image::family_end(image, h, f);
             i += 1;
         } else {
             return false;

@@ -12,10 +12,13 @@ use Rattle.image.specs.declared.Header.{Header}
 use Rattle.image.specs.declared.Opened.{Opened}
 use Rattle.image.specs.declared.Opened.the-variants.{Good, Refused}
 use Rattle.image.specs.Header.{headerOf, opened, orRefuse, sound1, sound2, sound3}
-use Rattle.image.specs.Image.{Framed, Counted, entries, counts}
+use Rattle.image.specs.Image.{entries, counts}
+use Rattle.image.specs.Inner.{Framed, Counted, Grouped}
 use Rattle.image.proofs.Laws.{framed-of}
-use Rattle.families.specs.Families.{sound5}
-use Rattle.panel.specs.Panel.{lengthOk, sound4, sound6, sound7, sound8, soundRecords, ownRows, lanesRising, hubRising, Ordered, Accepted}
+use Rattle.families.specs.Families.{sound5a, sound5b, sound5}
+use Rattle.families.proofs.Laws.{grouped-told}
+use Rattle.panel.specs.Refusals.{lengthOk, sound4, sound6, sound7, sound8, soundRecords, ownRows, lanesRising, hubRising}
+use Rattle.panel.specs.Inner.{Ordered, Accepted}
 use Rattle.graph.specs.Check.{later, portsChecked, afterOpen, checked}
 
 -- a test that passed is true of the chain's rest; one that failed gives its number
@@ -101,6 +104,10 @@ module _ (s : List ℕ) (r : Opened) (e : r ≡ opened s) where
   unfolding checked
   check-refused n t = rw (← e, t)
 
+grouped-of : (s : List ℕ) (h : Header) → Framed s h → sound5 h s ≡ true → Grouped s h
+unfolding sound5
+grouped-of s h framed e = grouped-told s h (sound5a h s) framed refl (both (sound5a h s) (sound5b h s) e .0)
+
 build : (s : List ℕ) (h : Header) → Framed s h → later h s ≡ Good h → Accepted s h
 unfolding later portsChecked sound4 sound6 sound7
 build s h framed f =
@@ -115,6 +122,7 @@ build s h framed f =
     let (ro, hu) = both (lanesRising h s) (hubRising h s) d in
     record {
       counted = record { framed = framed; total = eqb-true (sum (counts h s)) (h .ports) cs };
+      grouped = grouped-of s h framed b;
       lengths = ls;
       familied = b;
       laneRecords = lr;
@@ -145,3 +153,6 @@ accepted-of s h e = go (opened s) refl e
     go (Good x) p f =
         let q = same s h x f in
         build s h (framed-good s h (p ∙ ap Good q)) (ap (λ (y : Header). later y s) (sym q) ∙ f)
+
+pub accepted-told : (s : List ℕ) (h : Header) (r : Opened) → r ≡ checked s → r ≡ Good h → Accepted s h
+accepted-told s h r e t = accepted-of s h (sym e ∙ t)

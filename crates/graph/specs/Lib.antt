@@ -1,3 +1,4 @@
 pub mod Check
+pub mod Lookups
 pub mod PanelE
 pub mod Try

@@ -1,6 +1,7 @@
 -- The laws between lists of a parsed image and places in its bytes.
 use Prim.Native.Nat.{ℕ, zero, suc, _+_, _-_, _*_, _/_, _≤_, _<_}
-use native.Mathlib.Nat.{not-suc-le-zero, zero-mul, zero-add, mul-le-mul-right}
+use native.Mathlib.Nat.{not-suc-le-zero, zero-mul, zero-add, mul-le-mul-right, eq-or-lt-of-le}
+use mathlib.Core.Logic.{_⊎_, inl, inr}
 use native.Mathlib.Numerals.{add-one}
 use native.Mathlib.Omega.{arith}
 use mathlib.Core.Path.{_≡_, refl, sym, ap, _∙_}
@@ -11,7 +12,7 @@ use lib.Dec.{eqb, ltb, leb}
 use native.Mathlib.Decide.{decLt}
 use borrow.Author.Tests.{eq-eqb, ne-eqb, eqb-true, eqb-false, lt-ltb, le-ltb, ltb-true}
 use lib.Seq.{drop-drop, getD-drop, getD-take, drop-cons, length-take-le}
-use Rattle.ground.specs.Lists.{each, split, sum, all, any, count, after, rising, oneMoreIf, numbersFrom, distinct}
+use Rattle.ground.specs.Lists.{each, split, sum, all, any, count, after, rising, oneMoreIf, consIf, keep, numbersFrom, distinct}
 use mir.Val.{Fits}
 use mir.Syntax.{w64}
 use borrow.Author.Needs.{fits-under}
@@ -300,6 +301,37 @@ module _ {A : Type 0} (key : A → ℕ) (f : A → A → Bool) (less : (a b : A)
   rising-rises (a ∷ l) e (suc p) zero h m = absurd (not-suc-le-zero h)
   rising-rises (a ∷ l) e (suc p) (suc q) h m = rising-rises l (rising-tail a l e) p q (omega arith) (omega arith)
 
+-- a list in which each stands in a relation to the next that carries over: any two stand in it
+module _ {A : Type 0} (f : A → A → Bool) (chain : (a b c : A) → f a b ≡ true → f b c ≡ true → f a c ≡ true) (d : A) where
+  after-pairs : (a : A) (l : List A) → after f a l ≡ true → (q : ℕ) → q < length l → f a (getD l q d) ≡ true
+  unfolding after
+  after-pairs a [] e q h = absurd (not-suc-le-zero h)
+  after-pairs a (b ∷ l) e zero h = both (f a b) (after f b l) e .0
+  after-pairs a (b ∷ l) e (suc q) h =
+      let (first, rest) = both (f a b) (after f b l) e in
+      chain a b (getD l q d) first (after-pairs b l rest q (omega arith))
+
+  pairs-tail : (a : A) (l : List A) → after f a l ≡ true → rising f l ≡ true
+  unfolding after rising
+  pairs-tail a [] e = refl
+  pairs-tail a (b ∷ l) e = both (f a b) (after f b l) e .1
+
+  pub rising-pairs : (l : List A) → rising f l ≡ true → (p q : ℕ) → p < q → q < length l → f (getD l p d) (getD l q d) ≡ true
+  unfolding rising
+  rising-pairs [] e p q h m = absurd (not-suc-le-zero m)
+  rising-pairs (a ∷ l) e zero zero h m = absurd (not-suc-le-zero h)
+  rising-pairs (a ∷ l) e zero (suc q) h m = after-pairs a l e q (omega arith)
+  rising-pairs (a ∷ l) e (suc p) zero h m = absurd (not-suc-le-zero h)
+  rising-pairs (a ∷ l) e (suc p) (suc q) h m = rising-pairs l (pairs-tail a l e) p q (omega arith) (omega arith)
+
+  -- a test that whoever stands before one that passes passes too
+  pub rising-falls : (t : A → Bool) → ((a b : A) → f a b ≡ true → t b ≡ true → t a ≡ true) → (l : List A) → rising f l ≡ true → Falls t l d
+  rising-falls t back l e p q le m h = go (eq-or-lt-of-le le)
+    where
+      go : (p ≡ q) ⊎ (p < q) → t (getD l p d) ≡ true
+      go (inl same) = rw same h
+      go (inr lt) = back (getD l p d) (getD l q d) (rising-pairs l e p q lt m) h
+
 ltb-suc : (m n : ℕ) → ltb (suc m) (suc n) ≡ ltb m n
 ltb-suc m n = go (decLt m n)
   where
@@ -338,6 +370,36 @@ module _ {A : Type 0} (key : A → ℕ) (d : A) (same below : A → Bool) (at : 
       go ih (no ge) =
           let rest = none-above l (λ q m. let k = h 0 (suc q) (omega arith) (omega arith) in omega arith) in
           rw (rest .0, is a, le-ltb (key a) at (omega arith), rest .1, lt-ltb 0 (suc (length l)) (omega arith)) (or-false (same a))
+
+  keep-none : (l : List A) → ((q : ℕ) → q < length l → at < key (getD l q d)) → (keep same l ≡ []) × (count below l ≡ 0)
+  unfolding keep count
+  keep-none [] h = (refl, refl)
+  keep-none (a ∷ l) h =
+      let first = h 0 (omega arith) in
+      let ne : key a ≡ at → ⊥ = λ e. absurd (omega arith) in
+      let rest = keep-none l (λ q m. h (suc q) (omega arith)) in
+      (rw (differs a ne) (rest .0), rw (is a, le-ltb (key a) at (omega arith)) (rest .1))
+
+  -- it is the only one kept
+  pub keep-at : (l : List A) → Rises key l d → keep same l ≡ consIf (ltb (count below l) (length l) && same (getD l (count below l) d)) (getD l (count below l) d) []
+  unfolding keep count
+  keep-at [] h = refl
+  keep-at (a ∷ l) h = go (keep-at l (λ p q m n. h (suc p) (suc q) (omega arith) (omega arith))) (decLt (key a) at)
+    where
+      go : keep same l ≡ consIf (ltb (count below l) (length l) && same (getD l (count below l) d)) (getD l (count below l) d) [] → Dec (key a < at)
+          → keep same (a ∷ l) ≡ consIf (ltb (count below (a ∷ l)) (length (a ∷ l)) && same (getD (a ∷ l) (count below (a ∷ l)) d)) (getD (a ∷ l) (count below (a ∷ l)) d) []
+      go ih (yes lt) =
+          let ne : key a ≡ at → ⊥ = λ e. absurd (omega arith) in
+          rw (differs a ne, is a, lt-ltb (key a) at lt, ltb-suc (count below l) (length l)) ih
+      go ih (no ge) =
+          let rest = keep-none l (λ q m. let k = h 0 (suc q) (omega arith) (omega arith) in omega arith) in
+          rw (rest .0, is a, le-ltb (key a) at (omega arith), rest .1, lt-ltb 0 (suc (length l)) (omega arith))
+
+-- a test that none passes keeps none
+pub keep-nothing : {A : Type 0} (f : A → Bool) → ((a : A) → f a ≡ false) → (l : List A) → keep f l ≡ []
+unfolding keep
+keep-nothing f h [] = refl
+keep-nothing f h (a ∷ l) = rw (h a) (keep-nothing f h l)
 
 -- a test that all pass, each passes
 pub all-at : {A : Type 0} (d : A) (f : A → Bool) (l : List A) (i : ℕ) → all f l ≡ true → i < length l → f (getD l i d) ≡ true

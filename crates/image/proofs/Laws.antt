@@ -6,8 +6,9 @@ use mathlib.Core.Path.{_≡_, refl, sym, ap, _∙_}
 use mathlib.Core.Bool.{Bool, true, false, not, _&&_}
 use mathlib.Core.List.{List, [], _∷_, map}
 use lib.Dec.{leb, eqb}
-use lib.ListN.{length, drop, take, getD, List·getD-map, length-map}
-use lib.Seq.{drop-drop}
+use lib.ListN.{length, drop, take, getD, set, replicate, length-set, length-replicate, List·getD-map, length-map}
+use lib.Seq.{drop-drop, getD-set-same, getD-set-other}
+use native.Mathlib.Decide.{decLt}
 use mir.Val.{Fits}
 use mir.Syntax.{w64}
 use borrow.Author.Needs.{fits-under}
@@ -15,8 +16,10 @@ use borrow.Author.Tests.{le-leb, lt-leb, leb-true, eqb-true}
 use Rattle.storage.specs.Bytes.{number}
 use Rattle.ground.specs.Lists.{within, each, split, sum}
 use Rattle.storage.specs.Records.{portOf}
+use Rattle.storage.specs.Inner.{Records}
+use Rattle.storage.specs.Orders.{placeBefore}
 use Rattle.storage.specs.declared.Port.{Port}
-use Rattle.ground.proofs.ListLaws.{both, each-length, each-at, each-from, place-fits, split-at, sum-take-next, sum-take-le, sum-part-le, splits, split-length}
+use Rattle.ground.proofs.ListLaws.{both, each-length, each-at, each-from, place-fits, split-at, SumTo, sum-to-start, sum-to-next, sum-to-fits, sum-take-next, sum-take-le, sum-part-le, splits, split-length}
 use Rattle.image.specs.declared.Header.{Header}
 use Rattle.image.specs.declared.Entry.{Entry}
 use Rattle.image.specs.declared.Lane.{Lane}
@@ -24,7 +27,8 @@ use Rattle.image.specs.declared.Family.{Family}
 use Rattle.image.specs.declared.Opened.{Opened}
 use Rattle.image.specs.declared.Opened.the-variants.{Good, Refused}
 use Rattle.image.specs.Header.{headerOf, sound1, sound2, sound3, opened, orRefuse, Bounds, endPlace, hubPlace, lanePortsPlace, pathsPlace, familiesPlace}
-use Rattle.image.specs.Image.{entryOf, entries, counts, countOf, noEntry, lanePorts, hub, portsOf, startOf, paths, pathCounts, Framed, Counted, Stands, families, pathsOf, Grouped, Groups}
+use Rattle.image.specs.Image.{entryOf, entries, counts, countOf, noEntry, lanePorts, hub, portsOf, startOf, paths, pathCounts, families, pathsOf}
+use Rattle.image.specs.Inner.{Framed, Counted, Started, Stands, Grouped, Groups}
 use Rattle.image.specs.Panel.{PanelLane, Panel, noLane, zipLanes, panelBy, panelOf}
 use Rattle.storage.specs.Records.{noPort}
 
@@ -139,22 +143,14 @@ module _ (s : List ℕ) (h : Header) (framed : Framed s h) where
   unfolding counts
   count-is lane e q = ap countOf q ∙ sym (List·getD-map countOf (entries h s) lane noEntry)
 
-  pub hub-room : h .«hub_at» + h .ports * (h .k + 17) ≤ length s
-  hub-room = omega (arith, framed .hubAt, framed .end)
+  pub hub-stands : Records s (h .«hub_at») (h .ports) (h .k)
+  hub-stands = record { fits = omega (arith, framed .hubAt, framed .end); short = framed .small }
 
-  pub lane-ports-room : h .«lane_ports_at» + h .ports * (h .k + 17) ≤ length s
-  lane-ports-room = omega (arith, framed .lanePortsAt, framed .end)
-
-pub record-is : (s : List ℕ) (base n k i : ℕ) (r : Port) → i < n → r ≡ portOf k (drop (base + i * (k + 17)) s) → r ≡ getD (each (portOf k) (k + 17) n (drop base s)) i noPort
-record-is s base n k i r l e = e ∙ sym (each-from (portOf k) (k + 17) noPort n s base i l)
+  pub lane-ports-stand : Records s (h .«lane_ports_at») (h .ports) (h .k)
+  lane-ports-stand = record { fits = omega (arith, framed .lanePortsAt, framed .end); short = framed .small }
 
 pub number-is : (s : List ℕ) (base n i r : ℕ) → i < n → r ≡ number (drop (base + i * 8) s) → r ≡ getD (each number 8 n (drop base s)) i 0
 number-is s base n i r l e = e ∙ sym (each-from number 8 0 n s base i l)
-
-pub stands-of : (s : List ℕ) (h : Header) (n start : ℕ) (e : Entry) → Counted s h → n < h .lanes → e ≡ getD (entries h s) n noEntry → start ≡ startOf h s n
-    → Stands s h (record { number = n; len = e .len; identity = e .identity; start = start; count = e .count })
-stands-of s h n start e c l q r =
-    record { counted = c; lane = l; len = ap (λ (x : Entry). x .len) q; identity = ap (λ (x : Entry). x .identity) q; count = count-is s h (c .framed) n e q; start = r }
 
 module _ (s : List ℕ) (h : Header) (l : Lane) (stands : Stands s h l) where
   pub lane-within : l .start + l .count ≤ h .ports
@@ -175,6 +171,59 @@ module _ (s : List ℕ) (h : Header) (l : Lane) (stands : Stands s h l) where
   lane-port-is i r lt e =
       let lt′ : i < getD (counts h s) (l .number) 0 = rw (← stands .count) lt in
       e ∙ rw (stands .start) (sym (split-at noPort (counts h s) (lanePorts h s) (l .number) i lt′))
+
+  lane-here : (i : ℕ) → i < l .count → getD (each (portOf (h .k)) (h .k + 17) (h .ports) (drop (h .«lane_ports_at») s)) (l .start + i) noPort ≡ getD (portsOf h s (l .number)) i noPort
+  lane-here i lt = lane-port-is i _ lt refl
+
+  pub lane-before-is : (i anchor : ℕ) (reverse r : Bool) → i < l .count
+      → r ≡ placeBefore anchor reverse (getD (each (portOf (h .k)) (h .k + 17) (h .ports) (drop (h .«lane_ports_at») s)) (l .start + i) noPort)
+      → r ≡ placeBefore anchor reverse (getD (portsOf h s (l .number)) i noPort)
+  lane-before-is i anchor reverse r lt e = e ∙ ap (placeBefore anchor reverse) (lane-here i lt)
+
+  pub lane-anchor-is : (i r : ℕ) → i < l .count → r ≡ getD (each (portOf (h .k)) (h .k + 17) (h .ports) (drop (h .«lane_ports_at») s)) (l .start + i) noPort .anchor
+      → r ≡ getD (portsOf h s (l .number)) i noPort .anchor
+  lane-anchor-is i r lt e = e ∙ ap (λ (p : Port). p .anchor) (lane-here i lt)
+
+  pub lane-source-is : (i r : ℕ) → i < l .count → r ≡ getD (each (portOf (h .k)) (h .k + 17) (h .ports) (drop (h .«lane_ports_at») s)) (l .start + i) noPort .source
+      → r ≡ getD (portsOf h s (l .number)) i noPort .source
+  lane-source-is i r lt e = e ∙ ap (λ (p : Port). p .source) (lane-here i lt)
+
+-- ---- a table of where the lists begin
+
+pub record Starting (ns : List ℕ) (top : ℕ) (starts : List ℕ) (at i : ℕ) : Type 0 where
+  pub to : SumTo ns top at i
+  pub long : length starts ≡ 4096
+  pub filled : (j : ℕ) → j < i → getD starts j 0 ≡ sum (take j ns)
+
+pub starting-start : (ns : List ℕ) (top : ℕ) (starts : List ℕ) → starts ≡ replicate 4096 0 → Starting ns top starts 0 0
+starting-start ns top starts e = record { to = sum-to-start ns top; long = ap length e ∙ length-replicate {A = ℕ} 4096 0; filled = λ j lt. absurd (not-suc-le-zero lt) }
+
+module _ (ns : List ℕ) (top : ℕ) (starts : List ℕ) (at i x : ℕ) (so : Starting ns top starts at i) (lt : i < top) (is : x ≡ getD ns i 0) (long : length ns ≡ top) (few : top ≤ 4096) where
+  pub starting-next : Starting ns top (set starts i at) (at + x) (i + 1)
+  starting-next = record { to = sum-to-next ns top at i x top 0 (so .to) lt is (omega arith) long; long = length-set starts i at ∙ so .long; filled = λ j h. go j h (decLt j i) }
+    where
+      go : (j : ℕ) → j < i + 1 → Dec (j < i) → getD (set starts i at) j 0 ≡ sum (take j ns)
+      go j h (yes l) = getD-set-other starts i j at 0 (λ e. let z : ⊥ = omega arith in z) ∙ so .filled j l
+      go j h (no f) = let e : j ≡ i = omega arith in rw e (getD-set-same starts i at 0 (omega (arith, so .long)) ∙ so .to .so-far)
+
+pub starting-fits : (ns : List ℕ) (top : ℕ) (starts : List ℕ) (at i x total : ℕ) → Starting ns top starts at i → i < top → x ≡ getD ns i 0 → length ns ≡ top → sum ns ≡ total → total ≤ 4194304 → Fits w64 (at + x)
+starting-fits ns top starts at i x total so lt is long = sum-to-fits ns top at i x top total (so .to) lt is (omega arith) long
+
+pub started : (s : List ℕ) (h : Header) (starts : List ℕ) (at i : ℕ) → Counted s h → Starting (counts h s) (h .lanes) starts at i → h .lanes ≤ i → Started s h starts
+unfolding startOf
+started s h starts at i c so le = record { counted = c; each = λ j lt. so .filled j (omega arith) }
+
+pub stands-by : (s : List ℕ) (h : Header) (starts : List ℕ) (n : ℕ) (e : Entry) → Started s h starts → n < h .lanes → e ≡ getD (entries h s) n noEntry
+    → Stands s h (record { number = n; len = e .len; identity = e .identity; start = getD starts n 0; count = e .count })
+stands-by s h starts n e st lt q =
+    record {
+      counted = st .counted;
+      lane = lt;
+      len = ap (λ (x : Entry). x .len) q;
+      identity = ap (λ (x : Entry). x .identity) q;
+      count = count-is s h (st .counted .framed) n e q;
+      start = st .each n lt;
+    }
 
 -- ---- how long the lists are
 
@@ -217,6 +266,19 @@ pub groups-of : (s : List ℕ) (h : Header) (n start count : ℕ) → Grouped s 
 groups-of s h n start count g l e f = record { grouped = g; family = l; count = f; start = e }
 
 module _ (s : List ℕ) (h : Header) (f : Family) (groups : Groups s h f) where
+  family-room : f .number < length (pathCounts h s)
+  family-room = rw (path-counts-length s h) (groups .family)
+
+  pub family-end-is : f .start + f .count ≡ sum (take (f .number + 1) (pathCounts h s))
+  family-end-is = rw (groups .start, groups .count) (sym (sum-take-next (pathCounts h s) (f .number) family-room))
+
+  pub family-end-fits : Fits w64 (f .start + f .count)
+  family-end-fits =
+      let m = few-paths s h (groups .grouped .framed) in
+      let e = sum-part-le (pathCounts h s) (f .number) family-room in
+      let b : f .start + f .count < 4194305 = omega (arith, groups .start, groups .count, groups .grouped .total) in
+      fits-under w64 (f .start + f .count) 4194305 b tt
+
   pub family-index : (i : ℕ) → i < f .count → f .start + i < h .paths
   family-index i lt =
       let r : f .number < length (pathCounts h s) = rw (path-counts-length s h) (groups .family) in
@@ -262,3 +324,41 @@ panel-ports s h i f lt =
 pub panel-hub : (s : List ℕ) (h : Header) → Framed s h → panelOf s .hub ≡ hub h s
 unfolding panelOf panelBy
 panel-hub s h f = let same : headerOf s ≡ h = sym (f .header) in rw same
+
+pub panel-k : (s : List ℕ) (h : Header) → Framed s h → panelOf s .k ≡ h .k
+unfolding panelOf panelBy
+panel-k s h f = let same : headerOf s ≡ h = sym (f .header) in rw same
+
+pub panel-families : (s : List ℕ) (h : Header) → Framed s h → panelOf s .families ≡ families h s
+unfolding panelOf panelBy
+panel-families s h f = let same : headerOf s ≡ h = sym (f .header) in rw same
+
+zip-length : (es : List Entry) (rs : List (List Port)) → length rs ≡ length es → length (zipLanes es rs) ≡ length es
+unfolding zipLanes
+zip-length [] rs e = refl
+zip-length (x ∷ es) [] e = let z : ⊥ = omega arith in absurd z
+zip-length (x ∷ es) (r ∷ rs) e = ap suc (zip-length es rs (omega arith))
+
+pub panel-lanes : (s : List ℕ) (h : Header) → Framed s h → length (panelOf s .lanes) ≡ h .lanes
+unfolding panelOf panelBy
+panel-lanes s h f =
+    let same : headerOf s ≡ h = sym (f .header) in
+    let rows : length (split (counts h s) (lanePorts h s)) ≡ length (entries h s) = rows-length s h f ∙ sym (entries-length s h f) in
+    rw same (zip-length (entries h s) (split (counts h s) (lanePorts h s)) rows ∙ entries-length s h f)
+
+zip-entry : (es : List Entry) (rs : List (List Port)) (i : ℕ) → length rs ≡ length es
+    → (getD (zipLanes es rs) i noLane .len ≡ getD es i noEntry .len) × (getD (zipLanes es rs) i noLane .identity ≡ getD es i noEntry .identity)
+unfolding zipLanes
+zip-entry [] rs i e = (refl, refl)
+zip-entry (x ∷ es) [] i e = let z : ⊥ = omega arith in absurd z
+zip-entry (x ∷ es) (r ∷ rs) zero e = (refl, refl)
+zip-entry (x ∷ es) (r ∷ rs) (suc i) e = zip-entry es rs i (omega arith)
+
+-- length and identity of a lane of the panel are those of its entry
+pub panel-entry : (s : List ℕ) (h : Header) (i : ℕ) → Framed s h
+    → (getD (panelOf s .lanes) i noLane .len ≡ getD (entries h s) i noEntry .len) × (getD (panelOf s .lanes) i noLane .identity ≡ getD (entries h s) i noEntry .identity)
+unfolding panelOf panelBy
+panel-entry s h i f =
+    let same : headerOf s ≡ h = sym (f .header) in
+    let rows : length (split (counts h s) (lanePorts h s)) ≡ length (entries h s) = rows-length s h f ∙ sym (entries-length s h f) in
+    rw same (zip-entry (entries h s) (split (counts h s) (lanePorts h s)) i rows)

@@ -1,4 +1,4 @@
--- The header of a panel image, and refusals 1 to 3.
+-- The header of a panel image (01, "Panel image"), and refusals 1 to 3.
 use Prim.Native.Nat.{ℕ, _+_, _*_, _≤_}
 use mathlib.Core.Path.{_≡_}
 use mathlib.Core.Bool.{Bool, true, false, _&&_}
@@ -7,10 +7,13 @@ use lib.Dec.{leb, eqb}
 use lib.ListN.{length, drop}
 use Rattle.ground.specs.Lists.{within}
 use Rattle.storage.specs.Bytes.{number}
+use Rattle.storage.specs.Records.{recordSize, longestWord}
+use Rattle.image.specs.Sizes.{wordSize, headerSize, entrySize, mostLanes, mostFamilies, mostPaths, mostPorts}
 use Rattle.image.specs.declared.Header.{Header}
 use Rattle.image.specs.declared.Opened.{Opened}
 use Rattle.image.specs.declared.Opened.the-variants.{Good, Refused}
 
+-- k, lanes L, families F, path entries T, ports N, then the five offsets
 unfoldable pub headerOf : List ℕ → Header
 headerOf s =
     record {
@@ -26,45 +29,41 @@ headerOf s =
       «hub_at» = number (drop 72 s);
     }
 
+-- 1: the image has a header
 abbrev pub sound1 : List ℕ → Bool
-sound1 s = leb 80 (length s)
+sound1 s = leb headerSize (length s)
 
+-- 2: k, L, F, N within bounds, and T at most 64 times F
 unfoldable pub sound2 : Header → Bool
-sound2 h = leb (h .families) 4096 && (within 1 32 (h .k) && within 1 4096 (h .lanes) && leb (h .ports) 4194304 && leb (h .paths) (64 * h .families))
+sound2 h =
+    leb (h .families) mostFamilies
+    && (within 1 longestWord (h .k) && within 1 mostLanes (h .lanes) && leb (h .ports) mostPorts
+    && leb (h .paths) (mostPaths * h .families))
 
--- what refusal 2 leaves
-pub record Bounds (h : Header) : Type 0 where
-  pub some : 1 ≤ h .k
-  pub small : h .k ≤ 32
-  pub oneLane : 1 ≤ h .lanes
-  pub fewLanes : h .lanes ≤ 4096
-  pub fewFamilies : h .families ≤ 4096
-  pub fewPaths : h .paths ≤ 64 * h .families
-  pub fewPorts : h .ports ≤ 4194304
-  pub room : h .ports * (h .k + 17) ≤ 4194304 * 49
-
--- the packed places
+-- the packed places: lanes, families, path entries, lane ports, global ports, the end
 abbrev pub familiesPlace : Header → ℕ
-familiesPlace h = 80 + 24 * h .lanes
+familiesPlace h = headerSize + entrySize * h .lanes
 
 abbrev pub pathsPlace : Header → ℕ
-pathsPlace h = familiesPlace h + 8 * h .families
+pathsPlace h = familiesPlace h + wordSize * h .families
 
 abbrev pub lanePortsPlace : Header → ℕ
-lanePortsPlace h = pathsPlace h + 8 * h .paths
+lanePortsPlace h = pathsPlace h + wordSize * h .paths
 
 abbrev pub hubPlace : Header → ℕ
-hubPlace h = lanePortsPlace h + h .ports * (h .k + 17)
+hubPlace h = lanePortsPlace h + h .ports * recordSize (h .k)
 
 abbrev pub endPlace : Header → ℕ
-endPlace h = hubPlace h + h .ports * (h .k + 17)
+endPlace h = hubPlace h + h .ports * recordSize (h .k)
 
+-- 3: each offset and the image's length are the packed ones
 unfoldable pub sound3 : Header → ℕ → Bool
 sound3 h n =
-    eqb (h .«lanes_at») 80 && eqb (h .«families_at») (familiesPlace h)
+    eqb (h .«lanes_at») headerSize && eqb (h .«families_at») (familiesPlace h)
     && (eqb (h .«paths_at») (pathsPlace h) && eqb (h .«lane_ports_at») (lanePortsPlace h)
     && (eqb (h .«hub_at») (hubPlace h) && eqb n (endPlace h)))
 
+-- the first refusal by number
 abbrev pub orRefuse : Bool → ℕ → Opened → Opened
 orRefuse true n o = o
 orRefuse false n o = Refused n
@@ -75,3 +74,14 @@ opened s =
     (orRefuse (sound2 (headerOf s)) 2
     (orRefuse (sound3 (headerOf s) (length s)) 3
     (Good (headerOf s))))
+
+-- what 2 leaves
+pub record Bounds (h : Header) : Type 0 where
+  pub some : 1 ≤ h .k
+  pub small : h .k ≤ longestWord
+  pub oneLane : 1 ≤ h .lanes
+  pub fewLanes : h .lanes ≤ mostLanes
+  pub fewFamilies : h .families ≤ mostFamilies
+  pub fewPaths : h .paths ≤ mostPaths * h .families
+  pub fewPorts : h .ports ≤ mostPorts
+  pub room : h .ports * recordSize (h .k) ≤ mostPorts * recordSize longestWord

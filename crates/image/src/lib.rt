@@ -4,12 +4,13 @@ ghost use Prim.Native.Nat.{ℕ, _+_, _*_, _≤_, _<_};
 ghost use mathlib.Core.Bool.{Bool, true, _&&_};
 ghost use mathlib.Core.List.{[]};
 ghost use lib.Dec.{leb, eqb};
-ghost use lib.ListN.{length, drop, take, getD};
+ghost use lib.ListN.{length, drop, take, getD, replicate};
 ghost use Rattle.ground.specs.Lists.{sum, each};
-ghost use Rattle.storage.specs.Records.{portOf};
+ghost use Rattle.storage.specs.Orders.{placeBefore};
 ghost use Rattle.storage.specs.Bytes.{number};
 ghost use Rattle.image.specs.Header.{headerOf, sound2, sound3, opened, Bounds};
-ghost use Rattle.image.specs.Image.{Framed, Counted, Stands, entryOf, entries, counts, startOf, lanePorts, portsOf, hub, noEntry, paths, pathCounts, Grouped, Groups, pathsOf};
+ghost use Rattle.image.specs.Image.{entryOf, entries, counts, startOf, lanePorts, portsOf, hub, noEntry, paths, pathCounts, pathsOf};
+ghost use Rattle.image.specs.Inner.{Framed, Counted, Started, Stands, Grouped, Groups};
 ghost use Rattle.storage.specs.Records.{noPort};
 
 pub struct Header {
@@ -23,6 +24,27 @@ pub struct Header {
     pub paths_at: usize,
     pub lane_ports_at: usize,
     pub hub_at: usize,
+}
+
+impl Header {
+    // The bytes of the header, of a word, of a lane entry.
+    pub const SIZE: usize = 80;
+
+    pub const WORD: usize = 8;
+
+    pub const ENTRY: usize = 24;
+    // The bounds of its counts: letters of a word, lanes, families, paths a family, ports.
+    pub const LETTERS: usize = 32;
+
+    pub const LANES: usize = 4096;
+
+    pub const FAMILIES: usize = 4096;
+
+    pub const PATHS: usize = 64;
+
+    pub const PORTS: usize = 4194304;
+    // The bound of a lane's length.
+    pub const LENGTH: usize = 4294967295;
 }
 
 pub enum Opened {
@@ -63,13 +85,16 @@ pub fn header_of(image: &[u8]) -> Header
 fn in_bounds(h: Header) -> bool
     ensures { λ r. ⌜ r ≡ sound2 h ⌝ }
 {
-    if 4096 < h.families {
+    if Header::FAMILIES < h.families {
         return false;
     }
-    let counts = ground::both(ground::is_within(1, 32, h.k), ground::is_within(1, 4096, h.lanes));
+    let counts = ground::both(
+        ground::is_within(1, Header::LETTERS, h.k),
+        ground::is_within(1, Header::LANES, h.lanes),
+    );
     ground::both(
-        ground::both(counts, ground::at_most(h.ports, 4194304)),
-        ground::at_most(h.paths, 64 * h.families),
+        ground::both(counts, ground::at_most(h.ports, Header::PORTS)),
+        ground::at_most(h.paths, Header::PATHS * h.families),
     )
 }
 
@@ -78,20 +103,26 @@ fn is_packed(h: Header, len: usize) -> bool
     requires { ⌜ Bounds h ⌝ }
     ensures { λ r. ⌜ r ≡ sound3 h len ⌝ }
 {
-    let families_at = 80 + 24 * h.lanes;
-    let paths_at = families_at + 8 * h.families;
-    let lane_ports_at = paths_at + 8 * h.paths;
-    let width = h.k + 17;
+    let families_at = Header::SIZE + Header::ENTRY * h.lanes;
+    let paths_at = families_at + Header::WORD * h.families;
+    let lane_ports_at = paths_at + Header::WORD * h.paths;
+    let width = h.k + storage::Port::EXCESS;
     let hub_at = lane_ports_at + h.ports * width;
     let end = hub_at + h.ports * width;
-    let first = ground::both(ground::same(h.lanes_at, 80), ground::same(h.families_at, families_at));
+    let first = ground::both(
+        ground::same(h.lanes_at, Header::SIZE),
+        ground::same(h.families_at, families_at),
+    );
     let second = ground::both(
         ground::same(h.paths_at, paths_at),
         ground::same(h.lane_ports_at, lane_ports_at),
     );
     ground::both(
         first,
-        ground::both(second, ground::both(ground::same(h.hub_at, hub_at), ground::same(len, end))),
+        ground::both(
+            second,
+            ground::both(ground::same(h.hub_at, hub_at), ground::same(len, end)),
+        ),
     )
 }
 
@@ -100,7 +131,7 @@ pub fn open(image: &[u8]) -> Opened
     ensures { λ r. ⌜ r ≡ opened (now (image .entry)) ⌝ }
 {
     let len = image.len();
-    if len < 80 {
+    if len < Header::SIZE {
         return Opened::Refused(1);
     }
     let h = header_of(image);
@@ -148,15 +179,7 @@ pub fn lane_entry(image: &[u8], h: Header, lane: usize) -> Entry
     requires { ⌜ Framed (now image) h × (lane < h .lanes) ⌝ }
     ensures { λ r. ⌜ r ≡ getD (entries h (now (image .entry))) lane noEntry ⌝ }
 {
-    entry_at(image, h.lanes_at + lane * 24)
-}
-
-// A record of a list of n that stands from base on.
-fn record_at(image: &[u8], base: usize, n: usize, k: usize, i: usize) -> storage::Port
-    requires { ⌜ (base + n * (k + 17) ≤ length (now image)) × (k ≤ 32) × (i < n) ⌝ }
-    ensures { λ r. ⌜ r ≡ getD (each (portOf k) (k + 17) n (drop base (now (image .entry)))) i noPort ⌝ }
-{
-    storage::port_at(image, base + i * (k + 17), k)
+    entry_at(image, h.lanes_at + lane * Header::ENTRY)
 }
 
 // Record i of the global list.
@@ -164,15 +187,7 @@ pub fn hub_port(image: &[u8], h: Header, i: usize) -> storage::Port
     requires { ⌜ Framed (now image) h × (i < h .ports) ⌝ }
     ensures { λ r. ⌜ r ≡ getD (hub h (now (image .entry))) i noPort ⌝ }
 {
-    record_at(image, h.hub_at, h.ports, h.k, i)
-}
-
-// Record i of all lane lists in turn.
-pub fn flat_port(image: &[u8], h: Header, i: usize) -> storage::Port
-    requires { ⌜ Framed (now image) h × (i < h .ports) ⌝ }
-    ensures { λ r. ⌜ r ≡ getD (lanePorts h (now (image .entry))) i noPort ⌝ }
-{
-    record_at(image, h.lane_ports_at, h.ports, h.k, i)
+    storage::record_at(image, h.hub_at, h.ports, h.k, i)
 }
 
 // Word i of a list of n that stands from base on.
@@ -180,7 +195,7 @@ fn number_at(image: &[u8], base: usize, n: usize, i: usize) -> usize
     requires { ⌜ (base + n * 8 ≤ length (now image)) × (i < n) ⌝ }
     ensures { λ r. ⌜ r ≡ getD (each number 8 n (drop base (now (image .entry)))) i 0 ⌝ }
 {
-    storage::word_at(image, base + i * 8) as usize
+    storage::word_at(image, base + i * Header::WORD) as usize
 }
 
 // How many paths a family has.
@@ -208,28 +223,37 @@ pub fn lane_count(image: &[u8], h: Header, lane: usize) -> usize
     e.count
 }
 
-// How many ports stand in the lists before a lane's.
-pub fn lane_start(image: &[u8], h: Header, lane: usize) -> usize
-    requires { ⌜ Counted (now image) h × (lane ≤ h .lanes) ⌝ }
-    ensures { λ r. ⌜ r ≡ startOf h (now (image .entry)) lane ⌝ }
+fn no_starts() -> [usize; 4096]
+    ensures { λ r. ⌜ r ≡ replicate 4096 0 ⌝ }
 {
+    [0usize; 4096]
+}
+
+// Where each lane's list begins among the lane ports.
+pub fn lane_starts(image: &[u8], h: Header) -> [usize; 4096]
+    requires { ⌜ Counted (now image) h ⌝ }
+    ensures { λ r. ⌜ Started (now (image .entry)) h r ⌝ }
+{
+    let n = h.lanes;
+    let mut starts = no_starts();
     let mut at = 0;
     let mut i = 0;
-    while i < lane {
-        let n = lane_count(image, h, i);
-        at += n;
+    while i < n {
+        starts[i] = at;
+        let count = lane_count(image, h, i);
+        at += count;
         i += 1;
     }
-    at
+    starts
 }
 
 // A lane by its number.
-pub fn lane_of(image: &[u8], h: Header, number: usize) -> Lane
-    requires { ⌜ Counted (now image) h × (number < h .lanes) ⌝ }
+pub fn lane_of(image: &[u8], h: Header, starts: &[usize; 4096], number: usize) -> Lane
+    requires { ⌜ Started (now image) h (now starts) × (number < h .lanes) ⌝ }
     ensures { λ r. ⌜ Stands (now (image .entry)) h r × (r .number ≡ number) ⌝ }
 {
     let e = lane_entry(image, h, number);
-    let start = lane_start(image, h, number);
+    let start = starts[number];
     Lane {
         number,
         len: e.len,
@@ -244,7 +268,46 @@ pub fn lane_port(image: &[u8], h: Header, l: Lane, i: usize) -> storage::Port
     requires { ⌜ Stands (now image) h l × (i < l .count) ⌝ }
     ensures { λ r. ⌜ r ≡ getD (portsOf h (now (image .entry)) (l .number)) i noPort ⌝ }
 {
-    record_at(image, h.lane_ports_at, h.ports, h.k, l.start + i)
+    storage::record_at(image, h.lane_ports_at, h.ports, h.k, l.start + i)
+}
+
+// Whether record i of a lane's list stands before a place.
+pub fn is_lane_port_before(
+    image: &[u8],
+    h: Header,
+    l: Lane,
+    i: usize,
+    anchor: u64,
+    reverse: bool,
+) -> bool
+    requires { ⌜ Stands (now image) h l × (i < l .count) ⌝ }
+    ensures { λ r. ⌜ r ≡ placeBefore anchor reverse (getD (portsOf h (now (image .entry)) (l .number)) i noPort) ⌝ }
+{
+    storage::is_before(
+        image,
+        h.lane_ports_at,
+        h.ports,
+        h.k,
+        l.start + i,
+        anchor,
+        reverse,
+    )
+}
+
+// The anchor of record i of a lane's list.
+pub fn lane_anchor(image: &[u8], h: Header, l: Lane, i: usize) -> u64
+    requires { ⌜ Stands (now image) h l × (i < l .count) ⌝ }
+    ensures { λ r. ⌜ r ≡ getD (portsOf h (now (image .entry)) (l .number)) i noPort .anchor ⌝ }
+{
+    storage::anchor_of(image, h.lane_ports_at, h.ports, h.k, l.start + i)
+}
+
+// The lane that record i of a lane's list names.
+pub fn lane_source(image: &[u8], h: Header, l: Lane, i: usize) -> u64
+    requires { ⌜ Stands (now image) h l × (i < l .count) ⌝ }
+    ensures { λ r. ⌜ r ≡ getD (portsOf h (now (image .entry)) (l .number)) i noPort .source ⌝ }
+{
+    storage::source_of(image, h.lane_ports_at, h.ports, h.k, l.start + i)
 }
 
 // A family, and where its paths stand among the path entries.
@@ -254,32 +317,25 @@ pub struct Family {
     pub count: usize,
 }
 
-fn family_start(image: &[u8], h: Header, family: usize) -> usize
-    requires { ⌜ Grouped (now image) h × (family ≤ h .families) ⌝ }
-    ensures { λ r. ⌜ r ≡ sum (take family (pathCounts h (now (image .entry)))) ⌝ }
-{
-    let mut at = 0;
-    let mut i = 0;
-    while i < family {
-        let n = path_count(image, h, i);
-        at += n;
-        i += 1;
-    }
-    at
-}
-
-// A family by its number.
-pub fn family_of(image: &[u8], h: Header, number: usize) -> Family
-    requires { ⌜ Grouped (now image) h × (number < h .families) ⌝ }
+// The family of this number, whose paths begin here.
+pub fn family_from(image: &[u8], h: Header, number: usize, start: usize) -> Family
+    requires { ⌜ Grouped (now image) h × (number < h .families) × (start ≡ sum (take number (pathCounts h (now image)))) ⌝ }
     ensures { λ r. ⌜ Groups (now (image .entry)) h r × (r .number ≡ number) ⌝ }
 {
-    let start = family_start(image, h, number);
     let count = path_count(image, h, number);
     Family {
         number,
         start,
         count,
     }
+}
+
+// Where the next family's paths begin.
+pub fn family_end(image: &[u8], h: Header, f: Family) -> usize
+    requires { ⌜ Groups (now image) h f ⌝ }
+    ensures { λ r. ⌜ r ≡ sum (take (f .number + 1) (pathCounts h (now (image .entry)))) ⌝ }
+{
+    f.start + f.count
 }
 
 // Path i of a family.

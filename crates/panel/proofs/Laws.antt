@@ -1,29 +1,30 @@
 -- Laws of the panel check.
 use Prim.Native.Nat.{ℕ, zero, suc, _+_, _-_, _*_, _/_, _≤_, _<_}
 use native.Mathlib.Omega.{arith}
-use mathlib.Core.Path.{_≡_, refl, sym, ap, _∙_}
-use mathlib.Core.Bool.{Bool, true, false, not, _&&_, _||_, and-false}
-use mathlib.Core.List.{List, [], _∷_}
-use lib.Dec.{leb, ltb, eqb}
-use lib.ListN.{length, drop, take, getD, length-drop}
-use lib.Seq.{getD-take, getD-drop, length-take-le}
-use borrow.Author.Tests.{le-leb, lt-leb, leb-true, lt-ltb, le-ltb, ltb-true, ltb-false, leb-false, ne-eqb}
-use Rattle.ground.specs.Lists.{each, split, sum, all, any, count, rising, numbersFrom}
-use Rattle.storage.specs.Records.{portOf}
-use Rattle.storage.specs.Orders.{portOrder, wordOrder, numOrder, flagOrder, andThen, orderIf}
-use Rattle.storage.specs.declared.Order.{Order}
-use Rattle.storage.specs.declared.Order.the-variants.{Less, Equal, Greater}
-use Rattle.storage.specs.declared.Port.{Port}
-use Rattle.ground.proofs.ListLaws.{both, each-length, each-from, place-fits, all-at, Rises, rising-rises, Falls, Cut, cut-up, cut-down, any-at, numbers-at, numbers-length}
-use Rattle.image.proofs.Laws.{row-length, rows-length, entries-length, lane-port-is, lane-index}
 use native.Mathlib.Nat.{eq-or-lt-of-le}
+use mathlib.Core.Path.{_≡_, refl, sym, ap, _∙_}
+use mathlib.Core.Bool.{Bool, true, false, not, _&&_, _||_}
+use mathlib.Core.List.{List, [], _∷_}
 use mathlib.Core.Logic.{_⊎_, inl, inr}
+use lib.Dec.{leb, ltb, eqb}
+use lib.ListN.{length, drop, take, getD, replicate, length-drop}
+use lib.Seq.{getD-take, getD-drop, length-take-le}
+use borrow.Author.Tests.{le-leb, lt-leb, leb-true, lt-ltb, le-ltb, ltb-true, leb-false, ne-eqb}
+use Rattle.ground.specs.Lists.{each, split, all, any, count, numbersFrom}
+use Rattle.ground.proofs.ListLaws.{both, each-length, each-from, all-at, Rises, rising-rises, Falls, Cut, cut-up, cut-down, any-at, numbers-at, numbers-length}
+use Rattle.storage.specs.Records.{portOf, noPort}
+use Rattle.storage.specs.Orders.{placeOf, place, placeLt, placeBefore, samePort}
+use Rattle.storage.specs.Inner.{Offset}
+use Rattle.storage.specs.declared.Port.{Port}
+use Rattle.storage.proofs.OrderLaws.{port-same}
 use Rattle.image.specs.declared.Header.{Header}
 use Rattle.image.specs.declared.Entry.{Entry}
 use Rattle.image.specs.declared.Lane.{Lane}
-use Rattle.image.specs.Image.{entries, counts, lanePorts, portsOf, hub, noEntry, Framed, Counted, Stands}
-use Rattle.storage.specs.Records.{noPort}
-use Rattle.panel.specs.Panel.{lengthOk, sound4, letter, soundPort, soundRecord, soundRecords, isTrue, turn, place, placeLt, hubLt, hubRising, laneRising, lanesRising, isEqual, samePort, listed, sound8, placeBelow, Ordered, Accepted, from, ownRow, ownRows, sound6, sound7}
+use Rattle.image.specs.Image.{entries, counts, lanePorts, portsOf, hub, noEntry}
+use Rattle.image.specs.Inner.{Framed, Counted, Stands}
+use Rattle.image.proofs.Laws.{row-length, rows-length, entries-length, lane-port-is, lane-index}
+use Rattle.panel.specs.Refusals.{lengthOk, letter, soundPlace, soundPort, soundRecord, soundRecords, isTrue, laneRising, lanesRising, listed, ownRow}
+use Rattle.panel.specs.Inner.{Ordered, Accepted}
 
 -- ---- 6
 
@@ -46,66 +47,33 @@ leb-minus a k n h = go (leb a (n - k)) refl
     go true e = let q = leb-true a (n - k) e in e ∙ sym (le-leb (a + k) n (omega arith))
     go false e = let q = leb-false a (n - k) e in e ∙ sym (lt-leb (a + k) n (omega arith))
 
-module _ (s : List ℕ) (h : Header) (p : Port) where
-  pub port-unnamed : h .lanes ≤ p .source → false ≡ soundPort h s p
-  unfolding soundPort
-  port-unnamed l = rw (le-ltb (p .source) (h .lanes) l)
+module _ (s : List ℕ) (h : Header) (source anchor : ℕ) where
+  pub place-unnamed : h .lanes ≤ source → false ≡ soundPlace h s source anchor
+  unfolding soundPlace
+  place-unnamed l = rw (le-ltb source (h .lanes) l)
 
-  module _ (named : p .source < h .lanes) (e : Entry) (is : e ≡ getD (entries h s) (p .source) noEntry) where
-    pub port-short : e .len < h .k → false ≡ soundPort h s p
-    unfolding soundPort
-    port-short l = rw (lt-ltb (p .source) (h .lanes) named, ← is, lt-leb (p .anchor + h .k) (e .len) (omega arith))
+  module _ (named : source < h .lanes) (e : Entry) (is : e ≡ getD (entries h s) source noEntry) where
+    pub place-short : e .len < h .k → false ≡ soundPlace h s source anchor
+    unfolding soundPlace
+    place-short l = rw (lt-ltb source (h .lanes) named, ← is, lt-leb (anchor + h .k) (e .len) (omega arith))
 
-    pub port-fits : h .k ≤ e .len → leb (p .anchor) (e .len - h .k) ≡ soundPort h s p
-    unfolding soundPort
-    port-fits l = leb-minus (p .anchor) (h .k) (e .len) l ∙ rw (lt-ltb (p .source) (h .lanes) named, ← is)
+    pub place-ends : h .k ≤ e .len → leb anchor (e .len - h .k) ≡ soundPlace h s source anchor
+    unfolding soundPlace
+    place-ends l = leb-minus anchor (h .k) (e .len) l ∙ rw (lt-ltb source (h .lanes) named, ← is)
 
-pub record-told : (s : List ℕ) (h : Header) (at : ℕ) (p : Port) (a c d r : Bool) → a ≡ all letter (take (h .k) (drop at s)) → p ≡ portOf (h .k) (drop at s) → c ≡ soundPort h s p
-    → d ≡ (a && leb (getD s (at + h .k + 16) 0) 1) → r ≡ (d && c) → r ≡ soundRecord h s (drop at s)
+pub record-told : (s : List ℕ) (h : Header) (at source anchor : ℕ) (a c d r : Bool) → a ≡ all letter (take (h .k) (drop at s)) → source ≡ portOf (h .k) (drop at s) .source → anchor ≡ portOf (h .k) (drop at s) .anchor
+    → c ≡ soundPlace h s source anchor → d ≡ (a && leb (getD s (at + h .k + 16) 0) 1) → r ≡ (d && c) → r ≡ soundRecord h s (drop at s)
 unfolding soundRecord
-record-told s h at p a c d r ea ep ec ed er =
+record-told s h at source anchor a c d r ea es en ec ed er =
     let e : at + h .k + 16 ≡ at + (h .k + 16) = omega arith in
-    rw (er, ed, ea, ec, ep, getD-drop at s (h .k + 16) 0, e)
+    rw (er, ed, ea, ec, es, en, getD-drop at s (h .k + 16) 0, e)
 
-pub record-of-told : (s : List ℕ) (h : Header) (base i : ℕ) (r : Bool) → i < h .ports → r ≡ soundRecord h s (drop (base + i * (h .k + 17)) s)
+pub record-of-told : (s : List ℕ) (h : Header) (base i at : ℕ) (r : Bool) → Offset s base (h .ports) (h .k) i at → i < h .ports → r ≡ soundRecord h s (drop at s)
     → r ≡ getD (each (soundRecord h s) (h .k + 17) (h .ports) (drop base s)) i true
-record-of-told s h base i r l e = e ∙ sym (each-from (soundRecord h s) (h .k + 17) true (h .ports) s base i l)
+record-of-told s h base i at r off l e = e ∙ rw (off .place) (sym (each-from (soundRecord h s) (h .k + 17) true (h .ports) s base i l))
 
 pub marks-length : (s : List ℕ) (h : Header) (base : ℕ) → length (each (soundRecord h s) (h .k + 17) (h .ports) (drop base s)) ≡ h .ports
 marks-length s h base = each-length (soundRecord h s) (h .k + 17) true (h .ports) (drop base s)
-
--- ---- 7
-
-pub turn-small : (b : Bool) → turn b ≤ 1
-turn-small true = omega arith
-turn-small false = omega arith
-
-module _ (a b : Port) where
-  pub place-less : a .anchor < b .anchor → true ≡ placeLt a b
-  unfolding placeLt place
-  place-less l = sym (lt-ltb (2 * a .anchor + turn (a .reverse)) (2 * b .anchor + turn (b .reverse)) (omega (arith, turn-small (a .reverse))))
-
-  pub place-more : b .anchor < a .anchor → false ≡ placeLt a b
-  unfolding placeLt place
-  place-more l = sym (le-ltb (2 * a .anchor + turn (a .reverse)) (2 * b .anchor + turn (b .reverse)) (omega (arith, turn-small (b .reverse))))
-
-  module _ (le : b .anchor ≤ a .anchor) (ge : a .anchor ≤ b .anchor) where
-    pub place-turned : a .reverse ≡ true → false ≡ placeLt a b
-    unfolding placeLt place
-    place-turned e =
-        let f : turn (a .reverse) ≡ 1 = ap turn e in
-        sym (le-ltb (2 * a .anchor + turn (a .reverse)) (2 * b .anchor + turn (b .reverse)) (omega (arith, turn-small (b .reverse))))
-
-    pub place-turn : a .reverse ≡ false → b .reverse ≡ placeLt a b
-    unfolding placeLt place
-    place-turn e = go (b .reverse) refl
-      where
-        f : turn (a .reverse) ≡ 0
-        f = ap turn e
-
-        go : (t : Bool) → b .reverse ≡ t → b .reverse ≡ ltb (2 * a .anchor + turn (a .reverse)) (2 * b .anchor + turn (b .reverse))
-        go true q = let g : turn (b .reverse) ≡ 1 = ap turn q in q ∙ sym (lt-ltb (2 * a .anchor + turn (a .reverse)) (2 * b .anchor + turn (b .reverse)) (omega (arith, f)))
-        go false q = let g : turn (b .reverse) ≡ 0 = ap turn q in q ∙ sym (le-ltb (2 * a .anchor + turn (a .reverse)) (2 * b .anchor + turn (b .reverse)) (omega (arith, f)))
 
 -- ---- a lane's list by place
 
@@ -117,76 +85,43 @@ pub lane-rises : (l : List Port) → laneRising l ≡ true → Rises place l noP
 unfolding laneRising
 lane-rises l e = rising-rises place placeLt place-less-of noPort l e
 
-below-falls : (g : Port) (l : List Port) → laneRising l ≡ true → Falls (placeBelow g) l noPort
-unfolding placeBelow placeLt
-below-falls g l e p q le m t = go (eq-or-lt-of-le le)
+before-falls : (anchor : ℕ) (reverse : Bool) (l : List Port) → laneRising l ≡ true → Falls (placeBefore anchor reverse) l noPort
+unfolding placeBefore
+before-falls anchor reverse l e p q le m t = go (eq-or-lt-of-le le)
   where
-    top : place (getD l q noPort) < place g
-    top = ltb-true (place (getD l q noPort)) (place g) t
+    top : place (getD l q noPort) < placeOf anchor reverse
+    top = ltb-true (place (getD l q noPort)) (placeOf anchor reverse) t
 
-    go : (p ≡ q) ⊎ (p < q) → ltb (place (getD l p noPort)) (place g) ≡ true
+    go : (p ≡ q) ⊎ (p < q) → ltb (place (getD l p noPort)) (placeOf anchor reverse) ≡ true
     go (inl same) = rw same t
-    go (inr lt) = let r = lane-rises l e p q lt m in lt-ltb (place (getD l p noPort)) (place g) (omega (arith, top))
+    go (inr lt) = let r = lane-rises l e p q lt m in lt-ltb (place (getD l p noPort)) (placeOf anchor reverse) (omega (arith, top))
 
-module _ (s : List ℕ) (h : Header) (l : Lane) (g : Port) (lo hi : ℕ) (x : Port) (r : Bool) (stands : Stands s h l) (rises : laneRising (portsOf h s (l .number)) ≡ true)
-    (so : Cut (placeBelow g) (portsOf h s (l .number)) noPort (l .count) lo hi) (lt : lo < hi) (is : x ≡ getD (portsOf h s (l .number)) (lo + (hi - lo) / 2) noPort) (test : r ≡ placeLt x g) where
-  pub places-up : r ≡ true → Cut (placeBelow g) (portsOf h s (l .number)) noPort (l .count) (lo + (hi - lo) / 2 + 1) hi
-  unfolding placeBelow
-  places-up = cut-up (placeBelow g) (portsOf h s (l .number)) noPort (l .count) lo hi x r so lt is test (row-length s h l stands) (below-falls g (portsOf h s (l .number)) rises)
+module _ (s : List ℕ) (h : Header) (l : Lane) (anchor : ℕ) (reverse : Bool) (lo hi : ℕ) (r : Bool) (stands : Stands s h l) (rises : laneRising (portsOf h s (l .number)) ≡ true)
+    (so : Cut (placeBefore anchor reverse) (portsOf h s (l .number)) noPort (l .count) lo hi) (lt : lo < hi) (test : r ≡ placeBefore anchor reverse (getD (portsOf h s (l .number)) (lo + (hi - lo) / 2) noPort)) where
+  pub places-up : r ≡ true → Cut (placeBefore anchor reverse) (portsOf h s (l .number)) noPort (l .count) (lo + (hi - lo) / 2 + 1) hi
+  places-up = cut-up (placeBefore anchor reverse) (portsOf h s (l .number)) noPort (l .count) lo hi _ r so lt refl test (row-length s h l stands) (before-falls anchor reverse (portsOf h s (l .number)) rises)
 
-  pub places-down : r ≡ false → Cut (placeBelow g) (portsOf h s (l .number)) noPort (l .count) lo (lo + (hi - lo) / 2)
-  unfolding placeBelow
-  places-down = cut-down (placeBelow g) (portsOf h s (l .number)) noPort (l .count) lo hi x r so lt is test (row-length s h l stands) (below-falls g (portsOf h s (l .number)) rises)
+  pub places-down : r ≡ false → Cut (placeBefore anchor reverse) (portsOf h s (l .number)) noPort (l .count) lo (lo + (hi - lo) / 2)
+  places-down = cut-down (placeBefore anchor reverse) (portsOf h s (l .number)) noPort (l .count) lo hi _ r so lt refl test (row-length s h l stands) (before-falls anchor reverse (portsOf h s (l .number)) rises)
 
 -- ---- 8
 
-and-equal : (a b : Order) → andThen a b ≡ Equal → (a ≡ Equal) × (b ≡ Equal)
-and-equal Less b e = (e, cc)
-and-equal Equal b e = (refl, e)
-and-equal Greater b e = (e, cc)
-
-num-same : (x y : ℕ) → numOrder x y ≡ Equal → x ≡ y
-num-same x y e = go (ltb x y) (ltb y x) refl refl e
-  where
-    go : (a b : Bool) → ltb x y ≡ a → ltb y x ≡ b → orderIf a Less (orderIf b Greater Equal) ≡ Equal → x ≡ y
-    go true b p q h = let z : _≡_ {A = ℕ} 0 1 = cc in absurd (omega arith)
-    go false true p q h = let z : _≡_ {A = ℕ} 0 1 = cc in absurd (omega arith)
-    go false false p q h = let l = ltb-false x y p in let m = ltb-false y x q in omega arith
-
-flag-same : (x y : Bool) → flagOrder x y ≡ Equal → x ≡ y
-flag-same true true e = refl
-flag-same true false e = cc
-flag-same false true e = cc
-flag-same false false e = refl
-
-equal-of : (o : Order) → isEqual o ≡ true → o ≡ Equal
-equal-of Less e = cc
-equal-of Equal e = refl
-equal-of Greater e = cc
-
 same-place : (g a : Port) → samePort g a ≡ true → place a ≡ place g
-unfolding samePort portOrder place
-same-place g a e =
-    let tail = and-equal (wordOrder (g .word) (a .word)) _ (equal-of _ e) .1 in
-    let more = and-equal (numOrder (g .source) (a .source)) (andThen (numOrder (g .anchor) (a .anchor)) (flagOrder (g .reverse) (a .reverse))) tail .1 in
-    let both-of = and-equal (numOrder (g .anchor) (a .anchor)) (flagOrder (g .reverse) (a .reverse)) more in
-    let n = num-same (g .anchor) (a .anchor) (both-of .0) in
-    let f : turn (g .reverse) ≡ turn (a .reverse) = ap turn (flag-same (g .reverse) (a .reverse) (both-of .1)) in
-    omega arith
+same-place g a e = ap place (sym (port-same g a e))
 
-below-is : (g a : Port) → placeBelow g a ≡ ltb (place a) (place g)
-unfolding placeBelow placeLt
-below-is g a = refl
+before-is : (g a : Port) → placeBefore (g .anchor) (g .reverse) a ≡ ltb (place a) (place g)
+unfolding placeBefore
+before-is g a = refl
 
 listed-is : (s : List ℕ) (h : Header) (g : Port) (n : ℕ) → n ≡ g .source → laneRising (portsOf h s n) ≡ true
-    → listed h s g ≡ (ltb (count (placeBelow g) (portsOf h s n)) (length (portsOf h s n)) && samePort g (getD (portsOf h s n) (count (placeBelow g) (portsOf h s n)) noPort))
+    → listed h s g ≡ (ltb (count (placeBefore (g .anchor) (g .reverse)) (portsOf h s n)) (length (portsOf h s n)) && samePort g (getD (portsOf h s n) (count (placeBefore (g .anchor) (g .reverse)) (portsOf h s n)) noPort))
 unfolding listed
 listed-is s h g n e rises =
     ap (λ (m : ℕ). any (samePort g) (portsOf h s m)) (sym e)
-    ∙ any-at place noPort (samePort g) (placeBelow g) (place g) (same-place g) (below-is g) (portsOf h s n) (lane-rises (portsOf h s n) rises)
+    ∙ any-at place noPort (samePort g) (placeBefore (g .anchor) (g .reverse)) (place g) (same-place g) (before-is g) (portsOf h s n) (lane-rises (portsOf h s n) rises)
 
 module _ (s : List ℕ) (h : Header) (g : Port) (l : Lane) (i : ℕ) (stands : Stands s h l) (e : l .number ≡ g .source) (rows : lanesRising h s ≡ true)
-    (at : i ≡ count (placeBelow g) (portsOf h s (l .number))) where
+    (at : i ≡ count (placeBefore (g .anchor) (g .reverse)) (portsOf h s (l .number))) where
   pub row-rising : laneRising (portsOf h s (l .number)) ≡ true
   unfolding lanesRising portsOf
   row-rising =
@@ -207,10 +142,10 @@ module _ (s : List ℕ) (h : Header) (g : Port) (l : Lane) (i : ℕ) (stands : S
 
 -- the row of a lane rises, before anything is looked for in it
 pub row-rises : (s : List ℕ) (h : Header) (l : Lane) → Stands s h l → lanesRising h s ≡ true → laneRising (portsOf h s (l .number)) ≡ true
-row-rises s h l stands rows = row-rising s h (record { word = []; source = l .number; anchor = 0; reverse = false }) l _ stands refl rows refl
+row-rises s h l stands rows = row-rising s h (record { word = replicate 32 0; source = l .number; anchor = 0; reverse = false }) l _ stands refl rows refl
 
 pub hub-named : (s : List ℕ) (h : Header) (i : ℕ) (g : Port) → Ordered s h → i < h .ports → g ≡ getD (hub h s) i noPort → g .source < h .lanes
-unfolding hub soundRecords soundRecord soundPort
+unfolding hub soundRecords soundRecord soundPlace
 hub-named s h i g o lt is =
     let k = h .k in
     let at = drop (h .«hub_at» + i * (h .k + 17)) s in
@@ -244,7 +179,7 @@ record-sound s h base j e lt =
     ap (soundPort h s) port ∙ both (all letter (take (h .k) at) && leb (getD at (h .k + 16) 0) 1) (soundPort h s (portOf (h .k) at)) mark .1
 
 pub port-small : (s : List ℕ) (h : Header) (p : Port) → Framed s h → all lengthOk (entries h s) ≡ true → soundPort h s p ≡ true → p .anchor + h .k ≤ 4294967295
-unfolding soundPort lengthOk
+unfolding soundPlace lengthOk
 port-small s h p f lengths e =
     let (named, fits) = both (ltb (p .source) (h .lanes)) (leb (p .anchor + h .k) (getD (entries h s) (p .source) noEntry .len)) e in
     let n = ltb-true (p .source) (h .lanes) named in

@@ -1,14 +1,17 @@
-// The panel check: refusals 4 to 8.
+// The panel check: refusals 4 and 6 to 8.
 ghost use mathlib.Core.Path.{_≡_};
-ghost use Prim.Native.Nat.{ℕ, _+_, _*_, _≤_, _<_, _^_};
-ghost use mathlib.Core.Bool.{Bool, true, _&&_};
-ghost use mathlib.Core.List.{[]};
-ghost use lib.Dec.{leb, eqb};
+ghost use Prim.Native.Nat.{ℕ, _+_, _≤_, _<_};
+ghost use mathlib.Core.Bool.{Bool, true};
+ghost use lib.Dec.{eqb};
 ghost use lib.ListN.{length, drop, take, getD};
-ghost use Rattle.ground.specs.Lists.{sum, each, all, count, rising, numbersFrom};
-ghost use Rattle.image.specs.Image.{Framed, Counted, Stands, entries, counts, portsOf, hub, noEntry};
-ghost use Rattle.storage.specs.Records.{noPort};
-ghost use Rattle.panel.specs.Panel.{lengthOk, sound4, letter, soundPort, soundRecord, soundRecords, placeLt, hubLt, hubRising, laneRising, lanesRising, isLess, isEqual, samePort, listed, sound8, placeBelow, Ordered, from, ownRow, ownRows, sound6, sound7};
+ghost use Rattle.ground.specs.Lists.{sum, each, all, count, numbersFrom};
+ghost use Rattle.storage.specs.Records.{noPort, recordSize};
+ghost use Rattle.storage.specs.Orders.{placeBefore};
+ghost use Rattle.storage.specs.Inner.{Records};
+ghost use Rattle.image.specs.Image.{entries, counts, portsOf, hub, noEntry};
+ghost use Rattle.image.specs.Inner.{Framed, Counted, Started, Stands};
+ghost use Rattle.panel.specs.Refusals.{lengthOk, sound4, letter, soundPlace, soundRecord, soundRecords, from, ownRow, ownRows, sound6, laneRising, lanesRising, hubRising, sound7, listed, sound8};
+ghost use Rattle.panel.specs.Inner.{Ordered};
 
 // ---- 4
 
@@ -17,7 +20,7 @@ fn is_length(image: &[u8], h: image::Header, lane: usize) -> bool
     ensures { λ r. ⌜ r ≡ lengthOk (getD (entries h (now (image .entry))) lane noEntry) ⌝ }
 {
     let e = image::lane_entry(image, h, lane);
-    ground::is_within(1, 4294967295, e.len as usize)
+    ground::is_within(1, image::Header::LENGTH, e.len as usize)
 }
 
 fn are_lengths(image: &[u8], h: image::Header) -> bool
@@ -36,6 +39,7 @@ fn are_lengths(image: &[u8], h: image::Header) -> bool
     true
 }
 
+// The counts are taken from N one by one, so that no sum wraps.
 fn is_total(image: &[u8], h: image::Header) -> bool
     requires { ⌜ Framed (now image) h ⌝ }
     ensures { λ r. ⌜ r ≡ eqb (sum (counts h (now (image .entry)))) (h .ports) ⌝ }
@@ -97,19 +101,19 @@ fn are_letters(image: &[u8], at: usize, k: usize) -> bool
     true
 }
 
-// Whether a port names a lane and ends in it; no sum that could wrap.
-fn is_port(image: &[u8], h: image::Header, p: storage::Port) -> bool
+// Whether a record names a lane and ends in it; no sum that could wrap.
+fn is_place(image: &[u8], h: image::Header, source: u64, anchor: u64) -> bool
     requires { ⌜ Framed (now image) h ⌝ }
-    ensures { λ r. ⌜ r ≡ soundPort h (now (image .entry)) p ⌝ }
+    ensures { λ r. ⌜ r ≡ soundPlace h (now (image .entry)) source anchor ⌝ }
 {
-    let lane = p.source as usize;
+    let lane = source as usize;
     if lane < h.lanes {
         let e = image::lane_entry(image, h, lane);
         let k = h.k as u64;
         if e.len < k {
             false
         } else {
-            p.anchor <= e.len - k
+            anchor <= e.len - k
         }
     } else {
         false
@@ -117,27 +121,31 @@ fn is_port(image: &[u8], h: image::Header, p: storage::Port) -> bool
 }
 
 fn is_record(image: &[u8], h: image::Header, at: usize) -> bool
-    requires { ⌜ Framed (now image) h × (at + (h .k + 17) ≤ length (now image)) ⌝ }
+    requires { ⌜ Framed (now image) h × (at + recordSize (h .k) ≤ length (now image)) ⌝ }
     ensures { λ r. ⌜ r ≡ soundRecord h (now (image .entry)) (drop at (now (image .entry))) ⌝ }
 {
     let k = h.k;
     let letters = are_letters(image, at, k);
     let turned = image[at + k + 16] <= 1;
-    let p = storage::port_at(image, at, k);
-    ground::both(ground::both(letters, turned), is_port(image, h, p))
+    let source = storage::source_at(image, at, k);
+    let anchor = storage::anchor_at(image, at, k);
+    ground::both(
+        ground::both(letters, turned),
+        is_place(image, h, source, anchor),
+    )
 }
 
 fn is_record_of(image: &[u8], h: image::Header, base: usize, i: usize) -> bool
-    requires { ⌜ Framed (now image) h × (base + h .ports * (h .k + 17) ≤ length (now image)) × (i < h .ports) ⌝ }
-    ensures { λ r. ⌜ r ≡ getD (each (soundRecord h (now (image .entry))) (h .k + 17) (h .ports) (drop base (now (image .entry)))) i true ⌝ }
+    requires { ⌜ Framed (now image) h × Records (now image) base (h .ports) (h .k) × (i < h .ports) ⌝ }
+    ensures { λ r. ⌜ r ≡ getD (each (soundRecord h (now (image .entry))) (recordSize (h .k)) (h .ports) (drop base (now (image .entry)))) i true ⌝ }
 {
-    let k = h.k;
-    is_record(image, h, base + i * (k + 17))
+    let at = storage::offset(image, base, h.ports, h.k, i);
+    is_record(image, h, at)
 }
 
 // Whether the N records from base on are sound.
-pub fn are_records(image: &[u8], h: image::Header, base: usize) -> bool
-    requires { ⌜ Framed (now image) h × (base + h .ports * (h .k + 17) ≤ length (now image)) ⌝ }
+fn are_records(image: &[u8], h: image::Header, base: usize) -> bool
+    requires { ⌜ Framed (now image) h × Records (now image) base (h .ports) (h .k) ⌝ }
     ensures { λ r. ⌜ r ≡ soundRecords h (now (image .entry)) base ⌝ }
 {
     let n = h.ports;
@@ -152,188 +160,12 @@ pub fn are_records(image: &[u8], h: image::Header, base: usize) -> bool
     true
 }
 
-// ---- 7
-
-fn is_less(o: storage::Order) -> bool
-    ensures { λ r. ⌜ r ≡ isLess o ⌝ }
-{
-    match o {
-        storage::Order::Less => true,
-        storage::Order::Equal => false,
-        storage::Order::Greater => false,
-    }
-}
-
-fn is_equal(o: storage::Order) -> bool
-    ensures { λ r. ⌜ r ≡ isEqual o ⌝ }
-{
-    match o {
-        storage::Order::Less => false,
-        storage::Order::Equal => true,
-        storage::Order::Greater => false,
-    }
-}
-
-fn is_hub_below(a: storage::Port, b: storage::Port) -> bool
-    ensures { λ r. ⌜ r ≡ hubLt a b ⌝ }
-{
-    is_less(storage::compare(a, b))
-}
-
-pub fn is_hub_rising(image: &[u8], h: image::Header) -> bool
-    requires { ⌜ Framed (now image) h ⌝ }
-    ensures { λ r. ⌜ r ≡ hubRising h (now (image .entry)) ⌝ }
-{
-    let n = h.ports;
-    if n == 0 {
-        return true;
-    }
-    let mut last = image::hub_port(image, h, 0);
-    let mut i = 1;
-    while i < n {
-        let next = image::hub_port(image, h, i);
-        if is_hub_below(last, next) {
-            last = next;
-            i += 1;
-        } else {
-            return false;
-        }
-    }
-    true
-}
-
-fn is_place_below(a: storage::Port, b: storage::Port) -> bool
-    ensures { λ r. ⌜ r ≡ placeLt a b ⌝ }
-{
-    if a.anchor < b.anchor {
-        return true;
-    }
-    if b.anchor < a.anchor {
-        return false;
-    }
-    if a.reverse { false } else { b.reverse }
-}
-
-fn is_lane_rising(image: &[u8], h: image::Header, l: image::Lane) -> bool
-    requires { ⌜ Stands (now image) h l ⌝ }
-    ensures { λ r. ⌜ r ≡ laneRising (portsOf h (now (image .entry)) (l .number)) ⌝ }
-{
-    let n = l.count;
-    if n == 0 {
-        return true;
-    }
-    let mut last = image::lane_port(image, h, l, 0);
-    let mut i = 1;
-    while i < n {
-        let next = image::lane_port(image, h, l, i);
-        if is_place_below(last, next) {
-            last = next;
-            i += 1;
-        } else {
-            return false;
-        }
-    }
-    true
-}
-
-fn is_number_rising(image: &[u8], h: image::Header, lane: usize) -> bool
-    requires { ⌜ Counted (now image) h × (lane < h .lanes) ⌝ }
-    ensures { λ r. ⌜ r ≡ laneRising (portsOf h (now (image .entry)) lane) ⌝ }
-{
-    let l = image::lane_of(image, h, lane);
-    is_lane_rising(image, h, l)
-}
-
-pub fn are_lanes_rising(image: &[u8], h: image::Header) -> bool
-    requires { ⌜ Counted (now image) h ⌝ }
-    ensures { λ r. ⌜ r ≡ lanesRising h (now (image .entry)) ⌝ }
-{
-    let n = h.lanes;
-    let mut i = 0;
-    while i < n {
-        if is_number_rising(image, h, i) {
-            i += 1;
-        } else {
-            return false;
-        }
-    }
-    true
-}
-
-// ---- 8
-
-// How many ports of a lane stand before a port's place: a binary search.
-fn places_before(image: &[u8], h: image::Header, l: image::Lane, g: storage::Port) -> usize
-    requires { ⌜ Stands (now image) h l × (laneRising (portsOf h (now image) (l .number)) ≡ true) ⌝ }
-    ensures { λ r. ⌜ r ≡ count (placeBelow g) (portsOf h (now (image .entry)) (l .number)) ⌝ }
-{
-    let mut lo = 0;
-    let mut hi = l.count;
-    while lo < hi {
-        let mid = lo + (hi - lo) / 2;
-        let p = image::lane_port(image, h, l, mid);
-        if is_place_below(p, g) {
-            lo = mid + 1;
-        } else {
-            hi = mid;
-        }
-    }
-    lo
-}
-
-fn is_same(a: storage::Port, b: storage::Port) -> bool
-    ensures { λ r. ⌜ r ≡ samePort a b ⌝ }
-{
-    is_equal(storage::compare(a, b))
-}
-
-// Whether a global record is in its lane's list.
-fn is_listed(image: &[u8], h: image::Header, g: storage::Port) -> bool
-    requires { ⌜ Counted (now image) h × (lanesRising h (now image) ≡ true) × (g .source < h .lanes) ⌝ }
-    ensures { λ r. ⌜ r ≡ listed h (now (image .entry)) g ⌝ }
-{
-    let l = image::lane_of(image, h, g.source as usize);
-    let i = places_before(image, h, l, g);
-    if i < l.count {
-        let p = image::lane_port(image, h, l, i);
-        is_same(g, p)
-    } else {
-        false
-    }
-}
-
-fn is_listed_at(image: &[u8], h: image::Header, i: usize) -> bool
-    requires { ⌜ Ordered (now image) h × (i < h .ports) ⌝ }
-    ensures { λ r. ⌜ r ≡ listed h (now (image .entry)) (getD (hub h (now (image .entry))) i noPort) ⌝ }
-{
-    let g = image::hub_port(image, h, i);
-    is_listed(image, h, g)
-}
-
-pub fn are_listed(image: &[u8], h: image::Header) -> bool
-    requires { ⌜ Ordered (now image) h ⌝ }
-    ensures { λ r. ⌜ r ≡ sound8 h (now (image .entry)) ⌝ }
-{
-    let n = h.ports;
-    let mut i = 0;
-    while i < n {
-        if is_listed_at(image, h, i) {
-            i += 1;
-        } else {
-            return false;
-        }
-    }
-    true
-}
-
-// ---- 6, of the lanes' own lists
-
 fn is_from(image: &[u8], h: image::Header, l: image::Lane, i: usize) -> bool
     requires { ⌜ Stands (now image) h l × (i < l .count) ⌝ }
     ensures { λ r. ⌜ r ≡ from (l .number) (getD (portsOf h (now (image .entry)) (l .number)) i noPort) ⌝ }
 {
-    let p = image::lane_port(image, h, l, i);
-    ground::same(p.source as usize, l.number)
+    let source = image::lane_source(image, h, l, i);
+    ground::same(source as usize, l.number)
 }
 
 fn is_own(image: &[u8], h: image::Header, l: image::Lane) -> bool
@@ -352,22 +184,22 @@ fn is_own(image: &[u8], h: image::Header, l: image::Lane) -> bool
     true
 }
 
-fn is_own_at(image: &[u8], h: image::Header, lane: usize) -> bool
-    requires { ⌜ Counted (now image) h × (lane < h .lanes) ⌝ }
+fn is_own_at(image: &[u8], h: image::Header, starts: &[usize; 4096], lane: usize) -> bool
+    requires { ⌜ Started (now image) h (now starts) × (lane < h .lanes) ⌝ }
     ensures { λ r. ⌜ r ≡ ownRow h (now (image .entry)) (getD (numbersFrom 0 (h .lanes)) lane 0) ⌝ }
 {
-    let l = image::lane_of(image, h, lane);
+    let l = image::lane_of(image, h, starts, lane);
     is_own(image, h, l)
 }
 
-fn are_own(image: &[u8], h: image::Header) -> bool
-    requires { ⌜ Counted (now image) h ⌝ }
+fn are_own(image: &[u8], h: image::Header, starts: &[usize; 4096]) -> bool
+    requires { ⌜ Started (now image) h (now starts) ⌝ }
     ensures { λ r. ⌜ r ≡ ownRows h (now (image .entry)) ⌝ }
 {
     let n = h.lanes;
     let mut i = 0;
     while i < n {
-        if is_own_at(image, h, i) {
+        if is_own_at(image, h, starts, i) {
             i += 1;
         } else {
             return false;
@@ -376,18 +208,153 @@ fn are_own(image: &[u8], h: image::Header) -> bool
     true
 }
 
-pub fn are_sound(image: &[u8], h: image::Header) -> bool
-    requires { ⌜ Counted (now image) h ⌝ }
+pub fn are_sound(image: &[u8], h: image::Header, starts: &[usize; 4096]) -> bool
+    requires { ⌜ Started (now image) h (now starts) ⌝ }
     ensures { λ r. ⌜ r ≡ sound6 h (now (image .entry)) ⌝ }
 {
     let lanes = are_records(image, h, h.lane_ports_at);
     let hub = are_records(image, h, h.hub_at);
-    ground::both(ground::both(lanes, hub), are_own(image, h))
+    ground::both(ground::both(lanes, hub), are_own(image, h, starts))
 }
 
-pub fn are_rising(image: &[u8], h: image::Header) -> bool
-    requires { ⌜ Counted (now image) h ⌝ }
+// ---- 7
+
+fn is_hub_rising(image: &[u8], h: image::Header) -> bool
+    requires { ⌜ Framed (now image) h ⌝ }
+    ensures { λ r. ⌜ r ≡ hubRising h (now (image .entry)) ⌝ }
+{
+    let n = h.ports;
+    if n == 0 {
+        return true;
+    }
+    let mut last = image::hub_port(image, h, 0);
+    let mut i = 1;
+    while i < n {
+        let next = image::hub_port(image, h, i);
+        if storage::is_record_below(last, next) {
+            last = next;
+            i += 1;
+        } else {
+            return false;
+        }
+    }
+    true
+}
+
+fn is_lane_rising(image: &[u8], h: image::Header, l: image::Lane) -> bool
+    requires { ⌜ Stands (now image) h l ⌝ }
+    ensures { λ r. ⌜ r ≡ laneRising (portsOf h (now (image .entry)) (l .number)) ⌝ }
+{
+    let n = l.count;
+    if n == 0 {
+        return true;
+    }
+    let mut last = image::lane_port(image, h, l, 0);
+    let mut i = 1;
+    while i < n {
+        let next = image::lane_port(image, h, l, i);
+        if storage::is_place_below(last, next) {
+            last = next;
+            i += 1;
+        } else {
+            return false;
+        }
+    }
+    true
+}
+
+fn is_number_rising(image: &[u8], h: image::Header, starts: &[usize; 4096], lane: usize) -> bool
+    requires { ⌜ Started (now image) h (now starts) × (lane < h .lanes) ⌝ }
+    ensures { λ r. ⌜ r ≡ laneRising (portsOf h (now (image .entry)) lane) ⌝ }
+{
+    let l = image::lane_of(image, h, starts, lane);
+    is_lane_rising(image, h, l)
+}
+
+fn are_lanes_rising(image: &[u8], h: image::Header, starts: &[usize; 4096]) -> bool
+    requires { ⌜ Started (now image) h (now starts) ⌝ }
+    ensures { λ r. ⌜ r ≡ lanesRising h (now (image .entry)) ⌝ }
+{
+    let n = h.lanes;
+    let mut i = 0;
+    while i < n {
+        if is_number_rising(image, h, starts, i) {
+            i += 1;
+        } else {
+            return false;
+        }
+    }
+    true
+}
+
+pub fn are_rising(image: &[u8], h: image::Header, starts: &[usize; 4096]) -> bool
+    requires { ⌜ Started (now image) h (now starts) ⌝ }
     ensures { λ r. ⌜ r ≡ sound7 h (now (image .entry)) ⌝ }
 {
-    ground::both(are_lanes_rising(image, h), is_hub_rising(image, h))
+    ground::both(are_lanes_rising(image, h, starts), is_hub_rising(image, h))
+}
+
+// ---- 8
+
+// How many ports of a lane stand before a place of its list: a binary search.
+pub fn places_before(
+    image: &[u8],
+    h: image::Header,
+    l: image::Lane,
+    anchor: u64,
+    reverse: bool,
+) -> usize
+    requires { ⌜ Stands (now image) h l × (laneRising (portsOf h (now image) (l .number)) ≡ true) ⌝ }
+    ensures { λ r. ⌜ r ≡ count (placeBefore anchor reverse) (portsOf h (now (image .entry)) (l .number)) ⌝ }
+{
+    let mut lo = 0;
+    let mut hi = l.count;
+    while lo < hi {
+        let mid = lo + (hi - lo) / 2;
+        if image::is_lane_port_before(image, h, l, mid, anchor, reverse) {
+            lo = mid + 1;
+        } else {
+            hi = mid;
+        }
+    }
+    lo
+}
+
+// Whether a global record is in its lane's list.
+fn is_listed(image: &[u8], h: image::Header, starts: &[usize; 4096], g: storage::Port) -> bool
+    requires { ⌜ Started (now image) h (now starts) × (lanesRising h (now image) ≡ true) × (g .source < h .lanes) ⌝ }
+    ensures { λ r. ⌜ r ≡ listed h (now (image .entry)) g ⌝ }
+{
+    let l = image::lane_of(image, h, starts, g.source as usize);
+    let i = places_before(image, h, l, g.anchor, g.reverse);
+    if i < l.count {
+        let p = image::lane_port(image, h, l, i);
+        storage::is_same_port(g, p)
+    } else {
+        false
+    }
+}
+
+fn is_listed_at(image: &[u8], h: image::Header, starts: &[usize; 4096], i: usize) -> bool
+    requires { ⌜ Ordered (now image) h × Started (now image) h (now starts) × (i < h .ports) ⌝ }
+    ensures { λ r. ⌜ r ≡ listed h (now (image .entry)) (getD (hub h (now (image .entry))) i noPort) ⌝ }
+{
+    let g = image::hub_port(image, h, i);
+    is_listed(image, h, starts, g)
+}
+
+pub fn are_listed(image: &[u8], h: image::Header, starts: &[usize; 4096]) -> bool
+    requires { ⌜ Ordered (now image) h × Started (now image) h (now starts) ⌝ }
+    ensures { λ r. ⌜ r ≡ sound8 h (now (image .entry)) ⌝ }
+{
+    let n = h.ports;
+    let mut i = 0;
+    while i < n {
+        if is_listed_at(image, h, starts, i) {
+            i += 1;
+        } else {
+            return false;
+        }
+    }
+    true
 }

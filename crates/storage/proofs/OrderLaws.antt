@@ -1,15 +1,24 @@
--- Laws of the order.
-use Prim.Native.Nat.{ℕ, zero, suc, _+_, _≤_, _<_}
+-- Laws of the orders: a comparison letter by letter, and that the order of records is one.
+use Prim.Native.Nat.{ℕ, zero, suc, _+_, _-_, _*_, _≤_, _<_}
 use native.Mathlib.Nat.{le-of-lt}
 use native.Mathlib.Omega.{arith}
-use mathlib.Core.Path.{_≡_, refl, sym, _∙_}
-use mathlib.Core.List.{List, [], _∷_}
-use lib.ListN.{length, drop, getD, drop-of-length-le}
-use borrow.Author.Tests.{lt-ltb, le-ltb}
+use mathlib.Core.Path.{_≡_, refl, sym, ap, _∙_}
+use mathlib.Core.Bool.{Bool, true, false, not}
+use mathlib.Core.List.{List, [], _∷_, _++_}
+use mathlib.Core.Logic.{_⊎_, inl, inr}
+use lib.Dec.{ltb}
+use lib.ListN.{length, take, drop, getD, replicate, drop-of-length-le, length-drop}
+use lib.Seq.{getD-take, getD-drop, length-take-le}
+use borrow.Author.Tests.{lt-ltb, le-ltb, ltb-true, ltb-false}
+use Rattle.ground.specs.Lists.{pick}
 use Rattle.storage.proofs.Laws.{drop-next}
-use Rattle.storage.specs.Orders.{andThen, numOrder, wordOrder}
+use Rattle.storage.specs.Records.{padded}
+use Rattle.storage.specs.Orders.{andThen, numOrder, flagOrder, wordOrder, portOrder, isLess, isEqual, isGreater, recordLt, samePort, turn, placeOf, place, placeLt, placeBefore, wordBelow, wordUpTo}
+use Rattle.storage.specs.declared.Port.{Port}
 use Rattle.storage.specs.declared.Order.{Order}
 use Rattle.storage.specs.declared.Order.the-variants.{Less, Equal, Greater}
+
+-- ---- numbers
 
 pub num-less : (x y : ℕ) → x < y → Less ≡ numOrder x y
 num-less x y h = rw (lt-ltb x y h)
@@ -20,30 +29,332 @@ num-greater x y h = rw (le-ltb x y (le-of-lt h), lt-ltb y x h)
 pub num-equal : (x y : ℕ) → y ≤ x → x ≤ y → Equal ≡ numOrder x y
 num-equal x y h g = rw (le-ltb x y h, le-ltb y x g)
 
+-- ---- words, letter by letter
+
 word-step : (a b : List ℕ) (i : ℕ) → i < length a → i < length b → wordOrder (drop i a) (drop i b) ≡ andThen (numOrder (getD a i 0) (getD b i 0)) (wordOrder (drop (i + 1) a) (drop (i + 1) b))
 unfolding wordOrder
 word-step a b i la lb = rw (drop-next a i la, drop-next b i lb)
 
--- the first i bytes are equal
+-- the first i letters are equal
 abbrev pub SameUpTo : List ℕ → List ℕ → ℕ → Type 0
 SameUpTo a b i = wordOrder a b ≡ wordOrder (drop i a) (drop i b)
 
-module _ (a b : List ℕ) (i : ℕ) (la : length a ≡ 32) (lb : length b ≡ 32) (s : SameUpTo a b i) where
-  step : i < 32 → wordOrder a b ≡ andThen (numOrder (getD a i 0) (getD b i 0)) (wordOrder (drop (i + 1) a) (drop (i + 1) b))
+module _ (n : ℕ) (a b : List ℕ) (i : ℕ) (la : length a ≡ n) (lb : length b ≡ n) (s : SameUpTo a b i) where
+  step : i < n → wordOrder a b ≡ andThen (numOrder (getD a i 0) (getD b i 0)) (wordOrder (drop (i + 1) a) (drop (i + 1) b))
   step h = s ∙ word-step a b i (omega arith) (omega arith)
 
-  pub word-less : i < 32 → getD a i 0 < getD b i 0 → Less ≡ wordOrder a b
-  word-less h l = rw (step h, ← (num-less (getD a i 0) (getD b i 0) l))
+  by-less : i < n → getD a i 0 < getD b i 0 → Less ≡ wordOrder a b
+  by-less h l = rw (step h, ← (num-less (getD a i 0) (getD b i 0) l))
 
-  pub word-greater : i < 32 → getD b i 0 < getD a i 0 → Greater ≡ wordOrder a b
-  word-greater h l = rw (step h, ← (num-greater (getD a i 0) (getD b i 0) l))
+  by-greater : i < n → getD b i 0 < getD a i 0 → Greater ≡ wordOrder a b
+  by-greater h l = rw (step h, ← (num-greater (getD a i 0) (getD b i 0) l))
 
-  pub word-next : i < 32 → getD b i 0 ≤ getD a i 0 → getD a i 0 ≤ getD b i 0 → SameUpTo a b (i + 1)
-  word-next h l g = step h ∙ rw (← (num-equal (getD a i 0) (getD b i 0) l g))
+  by-next : i < n → getD b i 0 ≤ getD a i 0 → getD a i 0 ≤ getD b i 0 → SameUpTo a b (i + 1)
+  by-next h l g = step h ∙ rw (← (num-equal (getD a i 0) (getD b i 0) l g))
 
-  pub word-equal : 32 ≤ i → Equal ≡ wordOrder a b
+  by-equal : n ≤ i → Equal ≡ wordOrder a b
   unfolding wordOrder
-  word-equal h =
+  by-equal h =
       let ea : drop i a ≡ [] = drop-of-length-le a {i = i} (omega arith) in
       let eb : drop i b ≡ [] = drop-of-length-le b {i = i} (omega arith) in
       rw (s, ea, eb)
+
+-- two padded words
+module _ (a b : List ℕ) (i : ℕ) (la : length a ≡ 32) (lb : length b ≡ 32) (s : SameUpTo a b i) where
+  pub word-less : i < 32 → getD a i 0 < getD b i 0 → Less ≡ wordOrder a b
+  word-less = by-less 32 a b i la lb s
+
+  pub word-greater : i < 32 → getD b i 0 < getD a i 0 → Greater ≡ wordOrder a b
+  word-greater = by-greater 32 a b i la lb s
+
+  pub word-next : i < 32 → getD b i 0 ≤ getD a i 0 → getD a i 0 ≤ getD b i 0 → SameUpTo a b (i + 1)
+  word-next = by-next 32 a b i la lb s
+
+  pub word-equal : 32 ≤ i → Equal ≡ wordOrder a b
+  word-equal = by-equal 32 a b i la lb s
+
+-- the letters of an image from a place on, and a word
+module _ (xs : List ℕ) (at : ℕ) (w : List ℕ) (i : ℕ) (room : at + length w ≤ length xs) (s : SameUpTo (take (length w) (drop at xs)) w i) where
+  long : length (take (length w) (drop at xs)) ≡ length w
+  long = length-take-le (length w) (drop at xs) (rw length-drop (omega arith))
+
+  letter-is : i < length w → getD (take (length w) (drop at xs)) i 0 ≡ getD xs (at + i) 0
+  letter-is h = getD-take (length w) (drop at xs) i 0 h ∙ getD-drop at xs i 0
+
+  pub letters-less : i < length w → getD xs (at + i) 0 < getD w i 0 → Less ≡ wordOrder (take (length w) (drop at xs)) w
+  letters-less h l = by-less (length w) (take (length w) (drop at xs)) w i long refl s h (rw (letter-is h) l)
+
+  pub letters-greater : i < length w → getD w i 0 < getD xs (at + i) 0 → Greater ≡ wordOrder (take (length w) (drop at xs)) w
+  letters-greater h l = by-greater (length w) (take (length w) (drop at xs)) w i long refl s h (rw (letter-is h) l)
+
+  pub letters-next : i < length w → getD w i 0 ≤ getD xs (at + i) 0 → getD xs (at + i) 0 ≤ getD w i 0 → SameUpTo (take (length w) (drop at xs)) w (i + 1)
+  letters-next h l g = by-next (length w) (take (length w) (drop at xs)) w i long refl s h (rw (letter-is h) l) (rw (letter-is h) g)
+
+  pub letters-equal : length w ≤ i → Equal ≡ wordOrder (take (length w) (drop at xs)) w
+  letters-equal h = by-equal (length w) (take (length w) (drop at xs)) w i long refl s h
+
+-- ---- padding keeps the order
+
+tails-equal : (z : List ℕ) → wordOrder z z ≡ Equal
+unfolding wordOrder
+tails-equal [] = refl
+tails-equal (x ∷ z) = rw (le-ltb x x (omega arith)) (tails-equal z)
+
+same-tail : (a b z : List ℕ) → length a ≡ length b → wordOrder (a ++ z) (b ++ z) ≡ wordOrder a b
+unfolding wordOrder
+same-tail [] [] z h = tails-equal z
+same-tail [] (y ∷ b) z h = let e : ⊥ = omega arith in absurd e
+same-tail (x ∷ a) [] z h = let e : ⊥ = omega arith in absurd e
+same-tail (x ∷ a) (y ∷ b) z h = ap (andThen (numOrder x y)) (same-tail a b z (omega arith))
+
+-- of equal lengths, padded words are in the order of the words
+pub padded-order : (a b : List ℕ) (k : ℕ) → length a ≡ k → length b ≡ k → wordOrder (padded a k) (padded b k) ≡ wordOrder a b
+padded-order a b k la lb = same-tail a b (replicate (32 - k) 0) (la ∙ sym lb)
+
+-- ---- an order by parts is one where each part is
+
+and-less : (a b : Order) → andThen a b ≡ Less → (a ≡ Less) ⊎ ((a ≡ Equal) × (b ≡ Less))
+and-less Less b e = inl refl
+and-less Equal b e = inr (refl, e)
+and-less Greater b e = inl e
+
+pub and-equal : (a b : Order) → andThen a b ≡ Equal → (a ≡ Equal) × (b ≡ Equal)
+and-equal Less b e = (e, cc)
+and-equal Equal b e = (refl, e)
+and-equal Greater b e = (e, cc)
+
+module _ {A : Type 0} (order : A → A → Order) (chain : (x y z : A) → order x y ≡ Less → order y z ≡ Less → order x z ≡ Less)
+    (one : (x y : A) → order x y ≡ Equal → x ≡ y) (self : (x : A) → order x x ≡ Equal) where
+  lex : (x y z : A) (a b c : Order) → (a ≡ Less → b ≡ Less → c ≡ Less) → andThen (order x y) a ≡ Less → andThen (order y z) b ≡ Less → andThen (order x z) c ≡ Less
+  lex x y z a b c rest p q = go (and-less (order x y) a p) (and-less (order y z) b q)
+    where
+      go : (order x y ≡ Less) ⊎ ((order x y ≡ Equal) × (a ≡ Less)) → (order y z ≡ Less) ⊎ ((order y z ≡ Equal) × (b ≡ Less)) → andThen (order x z) c ≡ Less
+      go (inl l) (inl m) = rw (chain x y z l m)
+      go (inl l) (inr m) = let e : order x z ≡ Less = ap (order x) (sym (one y z (m .0))) ∙ l in rw e
+      go (inr l) (inl m) = let e : order x z ≡ Less = ap (λ (t : A). order t z) (one x y (l .0)) ∙ m in rw e
+      go (inr l) (inr m) =
+          let e : order x z ≡ Equal = ap (λ (t : A). order t z) (one x y (l .0) ∙ one y z (m .0)) ∙ self z in
+          rw e (rest (l .1) (m .1))
+
+pub num-same : (x y : ℕ) → numOrder x y ≡ Equal → x ≡ y
+num-same x y e = go (ltb x y) (ltb y x) refl refl e
+  where
+    go : (a b : Bool) → ltb x y ≡ a → ltb y x ≡ b → pick a Less (pick b Greater Equal) ≡ Equal → x ≡ y
+    go true b p q h = let z : _≡_ {A = ℕ} 0 1 = cc in absurd (omega arith)
+    go false true p q h = let z : _≡_ {A = ℕ} 0 1 = cc in absurd (omega arith)
+    go false false p q h = let l = ltb-false x y p in let m = ltb-false y x q in omega arith
+
+num-lt : (x y : ℕ) → numOrder x y ≡ Less → x < y
+num-lt x y e = go (ltb x y) (ltb y x) refl e
+  where
+    go : (a b : Bool) → ltb x y ≡ a → pick a Less (pick b Greater Equal) ≡ Less → x < y
+    go true b p h = ltb-true x y p
+    go false true p h = let z : _≡_ {A = ℕ} 0 1 = cc in absurd (omega arith)
+    go false false p h = let z : _≡_ {A = ℕ} 0 1 = cc in absurd (omega arith)
+
+num-chain : (x y z : ℕ) → numOrder x y ≡ Less → numOrder y z ≡ Less → numOrder x z ≡ Less
+num-chain x y z p q = let a = num-lt x y p in let b = num-lt y z q in sym (num-less x z (omega arith))
+
+num-self : (x : ℕ) → numOrder x x ≡ Equal
+num-self x = sym (num-equal x x (omega arith) (omega arith))
+
+pub flag-same : (x y : Bool) → flagOrder x y ≡ Equal → x ≡ y
+flag-same true true e = refl
+flag-same true false e = cc
+flag-same false true e = cc
+flag-same false false e = refl
+
+flag-chain : (x y z : Bool) → flagOrder x y ≡ Less → flagOrder y z ≡ Less → flagOrder x z ≡ Less
+flag-chain true true z p q = q
+flag-chain true false z p q = cc
+flag-chain false true true p q = p
+flag-chain false true false p q = cc
+flag-chain false false z p q = q
+
+flag-self : (x : Bool) → flagOrder x x ≡ Equal
+flag-self true = refl
+flag-self false = refl
+
+pub word-same : (a b : List ℕ) → wordOrder a b ≡ Equal → a ≡ b
+unfolding wordOrder
+word-same [] [] e = refl
+word-same [] (y ∷ b) e = let z : _≡_ {A = ℕ} 0 1 = cc in absurd (omega arith)
+word-same (x ∷ a) [] e = let z : _≡_ {A = ℕ} 0 1 = cc in absurd (omega arith)
+word-same (x ∷ a) (y ∷ b) e =
+    let (p, q) = and-equal (numOrder x y) (wordOrder a b) e in
+    rw (num-same x y p, word-same a b q)
+
+pub word-chain : (a b c : List ℕ) → wordOrder a b ≡ Less → wordOrder b c ≡ Less → wordOrder a c ≡ Less
+unfolding wordOrder
+word-chain [] [] c p q = q
+word-chain [] (y ∷ b) [] p q = cc
+word-chain [] (y ∷ b) (z ∷ c) p q = refl
+word-chain (x ∷ a) [] c p q = cc
+word-chain (x ∷ a) (y ∷ b) [] p q = cc
+word-chain (x ∷ a) (y ∷ b) (z ∷ c) p q = lex numOrder num-chain num-same num-self x y z (wordOrder a b) (wordOrder b c) (wordOrder a c) (word-chain a b c) p q
+
+pub word-self : (a : List ℕ) → wordOrder a a ≡ Equal
+word-self a = tails-equal a
+
+-- ---- records
+
+pub port-chain : (p q r : Port) → portOrder p q ≡ Less → portOrder q r ≡ Less → portOrder p r ≡ Less
+unfolding portOrder
+port-chain p q r =
+    lex wordOrder word-chain word-same word-self (p .word) (q .word) (r .word) _ _ _
+    (lex numOrder num-chain num-same num-self (p .source) (q .source) (r .source) _ _ _
+    (lex numOrder num-chain num-same num-self (p .anchor) (q .anchor) (r .anchor) _ _ _
+    (flag-chain (p .reverse) (q .reverse) (r .reverse))))
+
+pub port-self : (p : Port) → portOrder p p ≡ Equal
+unfolding portOrder
+port-self p = rw (word-self (p .word), num-self (p .source), num-self (p .anchor)) (flag-self (p .reverse))
+
+less-of : (o : Order) → isLess o ≡ true → o ≡ Less
+less-of Less e = refl
+less-of Equal e = cc
+less-of Greater e = cc
+
+equal-of : (o : Order) → isEqual o ≡ true → o ≡ Equal
+equal-of Less e = cc
+equal-of Equal e = refl
+equal-of Greater e = cc
+
+pub record-chain : (p q r : Port) → recordLt p q ≡ true → recordLt q r ≡ true → recordLt p r ≡ true
+unfolding recordLt
+record-chain p q r a b = rw (port-chain p q r (less-of (portOrder p q) a) (less-of (portOrder q r) b))
+
+-- no record stands before itself
+pub record-self : (p : Port) → recordLt p p ≡ false
+unfolding recordLt
+record-self p = rw (port-self p)
+
+-- what the order calls the same is one record
+pub port-same : (p q : Port) → samePort p q ≡ true → p ≡ q
+unfolding samePort portOrder
+port-same p q e =
+    let (w, t) = and-equal (wordOrder (p .word) (q .word)) _ (equal-of _ e) in
+    let (s, u) = and-equal (numOrder (p .source) (q .source)) (andThen (numOrder (p .anchor) (q .anchor)) (flagOrder (p .reverse) (q .reverse))) t in
+    let (a, f) = and-equal (numOrder (p .anchor) (q .anchor)) (flagOrder (p .reverse) (q .reverse)) u in
+    let ew = word-same (p .word) (q .word) w in
+    let es = num-same (p .source) (q .source) s in
+    let ea = num-same (p .anchor) (q .anchor) a in
+    let ef = flag-same (p .reverse) (q .reverse) f in
+    λ i. record { word = ew i; source = es i; anchor = ea i; reverse = ef i }
+
+pub same-self : (p : Port) → samePort p p ≡ true
+unfolding samePort
+same-self p = rw (port-self p)
+
+-- the words of rising records rise too, or stay
+words-rise : (p q : Port) → recordLt p q ≡ true → (wordOrder (p .word) (q .word) ≡ Less) ⊎ (p .word ≡ q .word)
+unfolding recordLt portOrder
+words-rise p q e = go (and-less (wordOrder (p .word) (q .word)) _ (less-of _ e))
+  where
+    go : {o : Order} → (wordOrder (p .word) (q .word) ≡ Less) ⊎ ((wordOrder (p .word) (q .word) ≡ Equal) × (o ≡ Less)) → (wordOrder (p .word) (q .word) ≡ Less) ⊎ (p .word ≡ q .word)
+    go (inl l) = inl l
+    go (inr m) = inr (word-same (p .word) (q .word) (m .0))
+
+pub below-before : (w : List ℕ) (p q : Port) → recordLt p q ≡ true → wordBelow w q ≡ true → wordBelow w p ≡ true
+unfolding wordBelow
+below-before w p q e t = go (words-rise p q e)
+  where
+    low : wordOrder (q .word) w ≡ Less
+    low = less-of (wordOrder (q .word) w) t
+
+    go : (wordOrder (p .word) (q .word) ≡ Less) ⊎ (p .word ≡ q .word) → isLess (wordOrder (p .word) w) ≡ true
+    go (inl l) = rw (word-chain (p .word) (q .word) w l low)
+    go (inr s) = rw (s, low)
+
+not-greater : (o : Order) → not (isGreater o) ≡ true → (o ≡ Less) ⊎ (o ≡ Equal)
+not-greater Less e = inl refl
+not-greater Equal e = inr refl
+not-greater Greater e = inl cc
+
+pub up-to-before : (w : List ℕ) (p q : Port) → recordLt p q ≡ true → wordUpTo w q ≡ true → wordUpTo w p ≡ true
+unfolding wordUpTo
+up-to-before w p q e t = go (words-rise p q e) (not-greater (wordOrder (q .word) w) t)
+  where
+    go : (wordOrder (p .word) (q .word) ≡ Less) ⊎ (p .word ≡ q .word) → (wordOrder (q .word) w ≡ Less) ⊎ (wordOrder (q .word) w ≡ Equal) → not (isGreater (wordOrder (p .word) w)) ≡ true
+    go (inl l) (inl m) = rw (word-chain (p .word) (q .word) w l m)
+    go (inl l) (inr m) = let s : wordOrder (p .word) w ≡ Less = ap (wordOrder (p .word)) (sym (word-same (q .word) w m)) ∙ l in rw s
+    go (inr s) (inl m) = rw (s, m)
+    go (inr s) (inr m) = rw (s, m)
+
+-- ---- places
+
+pub turn-small : (b : Bool) → turn b ≤ 1
+turn-small true = omega arith
+turn-small false = omega arith
+
+-- a place before another, by anchor and then forward before reverse
+module _ (a b : ℕ) (t u : Bool) where
+  place-less : a < b → true ≡ ltb (placeOf a t) (placeOf b u)
+  unfolding placeOf
+  place-less l = sym (lt-ltb (2 * a + turn t) (2 * b + turn u) (omega (arith, turn-small t)))
+
+  place-more : b < a → false ≡ ltb (placeOf a t) (placeOf b u)
+  unfolding placeOf
+  place-more l = sym (le-ltb (2 * a + turn t) (2 * b + turn u) (omega (arith, turn-small u)))
+
+  module _ (le : b ≤ a) (ge : a ≤ b) where
+    place-turned : t ≡ true → false ≡ ltb (placeOf a t) (placeOf b u)
+    unfolding placeOf
+    place-turned e =
+        let f : turn t ≡ 1 = ap turn e in
+        sym (le-ltb (2 * a + turn t) (2 * b + turn u) (omega (arith, turn-small u)))
+
+    place-turn : t ≡ false → u ≡ ltb (placeOf a t) (placeOf b u)
+    unfolding placeOf
+    place-turn e = go u refl
+      where
+        f : turn t ≡ 0
+        f = ap turn e
+
+        go : (v : Bool) → u ≡ v → u ≡ ltb (2 * a + turn t) (2 * b + turn u)
+        go true q = let g : turn u ≡ 1 = ap turn q in q ∙ sym (lt-ltb (2 * a + turn t) (2 * b + turn u) (omega (arith, f)))
+        go false q = let g : turn u ≡ 0 = ap turn q in q ∙ sym (le-ltb (2 * a + turn t) (2 * b + turn u) (omega (arith, f)))
+
+module _ (p q : Port) where
+  pub lane-less : p .anchor < q .anchor → true ≡ placeLt p q
+  unfolding placeLt
+  lane-less = place-less (p .anchor) (q .anchor) (p .reverse) (q .reverse)
+
+  pub lane-more : q .anchor < p .anchor → false ≡ placeLt p q
+  unfolding placeLt
+  lane-more = place-more (p .anchor) (q .anchor) (p .reverse) (q .reverse)
+
+  pub lane-turned : q .anchor ≤ p .anchor → p .anchor ≤ q .anchor → p .reverse ≡ true → false ≡ placeLt p q
+  unfolding placeLt
+  lane-turned = place-turned (p .anchor) (q .anchor) (p .reverse) (q .reverse)
+
+  pub lane-turn : q .anchor ≤ p .anchor → p .anchor ≤ q .anchor → p .reverse ≡ false → q .reverse ≡ placeLt p q
+  unfolding placeLt
+  lane-turn = place-turn (p .anchor) (q .anchor) (p .reverse) (q .reverse)
+
+-- a record whose anchor and orientation were read, before a place
+module _ (p : Port) (here anchor : ℕ) (reverse : Bool) (eh : here ≡ p .anchor) where
+  pub before-less : here < anchor → true ≡ placeBefore anchor reverse p
+  unfolding placeBefore
+  before-less l = place-less (p .anchor) anchor (p .reverse) reverse (omega arith)
+
+  pub before-more : anchor < here → false ≡ placeBefore anchor reverse p
+  unfolding placeBefore
+  before-more l = place-more (p .anchor) anchor (p .reverse) reverse (omega arith)
+
+  module _ (le : anchor ≤ here) (ge : here ≤ anchor) (turned : Bool) (et : turned ≡ p .reverse) where
+    pub before-turned : turned ≡ true → false ≡ placeBefore anchor reverse p
+    unfolding placeBefore
+    before-turned e = place-turned (p .anchor) anchor (p .reverse) reverse (omega arith) (omega arith) (sym et ∙ e)
+
+    pub before-turn : turned ≡ false → reverse ≡ placeBefore anchor reverse p
+    unfolding placeBefore
+    before-turn e = place-turn (p .anchor) anchor (p .reverse) reverse (omega arith) (omega arith) (sym et ∙ e)
+
+-- two places are one only where anchor and orientation are
+pub place-one : (a b : ℕ) (t u : Bool) → placeOf a t ≡ placeOf b u → (a ≡ b) × (t ≡ u)
+unfolding placeOf
+place-one a b true true e = (omega arith, refl)
+place-one a b true false e = absurd (omega arith)
+place-one a b false true e = absurd (omega arith)
+place-one a b false false e = (omega arith, refl)

@@ -1,10 +1,14 @@
-// Records of ports in a byte image.
+// Numbers and port records in a byte image.
 ghost use mathlib.Core.Path.{_≡_};
 ghost use Prim.Native.Nat.{ℕ, _+_, _-_, _*_, _^_, _≤_, _<_};
 ghost use lib.ListN.{length, take, drop, getD};
-ghost use Rattle.storage.specs.Bytes.{number, leAt, Widened, part};
-ghost use Rattle.storage.specs.Records.{padded, portOf, cutOf};
-ghost use Rattle.storage.specs.Orders.{andThen, numOrder, flagOrder, wordOrder, portOrder};
+ghost use Rattle.ground.specs.Lists.{each, count};
+ghost use Rattle.storage.specs.Bytes.{number};
+ghost use Rattle.storage.specs.Records.{padded, portOf, cutOffset, cutOf, sameTurn, standsAt, noPort, recordSize, longestWord};
+ghost use Rattle.storage.specs.Orders.{andThen, numOrder, flagOrder, wordOrder, portOrder, isLess, isEqual, isGreater, recordLt, samePort, placeLt, placeBefore, wordBelow, wordUpTo, bucketOf};
+ghost use Rattle.storage.specs.Inner.{leAt, Widened, Records, Sorted, Offset};
+
+// ---- words
 
 // A byte as a u64.
 fn wide(x: u8) -> u64
@@ -40,7 +44,9 @@ pub fn word_at(image: &[u8], at: usize) -> u64
     bytes_at(image, at)
 }
 
-// A record of an image, by value. The word is padded with zeros.
+// ---- ports
+
+// A port record, by value. The word is padded with zeros.
 pub struct Port {
     pub word: [u8; 32],
     pub source: u64,
@@ -52,7 +58,7 @@ impl Port {
     // The bytes of a record beside its word.
     pub const EXCESS: usize = 17;
 
-    // Where the port's word is cut.
+    // Where the port's lane is cut.
     pub fn cut(self, k: usize) -> u64
         requires { ⌜ self .anchor + k < 2 ^ 64 ⌝ }
         ensures { λ r. ⌜ r ≡ cutOf self k ⌝ }
@@ -65,19 +71,61 @@ impl Port {
         }
     }
 
-    // How wide a record is.
-    pub fn width(k: usize) -> usize
-        requires { ⌜ k ≤ 32 ⌝ }
-        ensures { λ r. ⌜ r ≡ k + 17 ⌝ }
+    // Whether it has this cut and this orientation.
+    pub fn stands_at(self, k: usize, cut: u64, reverse: bool) -> bool
+        requires { ⌜ self .anchor + k < 2 ^ 64 ⌝ }
+        ensures { λ r. ⌜ r ≡ standsAt k cut reverse self ⌝ }
+    {
+        if self.cut(k) == cut {
+            same_turn(self.reverse, reverse)
+        } else {
+            false
+        }
+    }
+
+    // The bytes of a record.
+    pub fn size(k: usize) -> usize
+        requires { ⌜ k ≤ longestWord ⌝ }
+        ensures { λ r. ⌜ r ≡ recordSize k ⌝ }
     {
         k + Port::EXCESS
     }
+
+    // No port: what stands beside an answer that has none.
+    pub fn none() -> Port
+        ensures { λ r. ⌜ r ≡ noPort ⌝ }
+    {
+        Port {
+            word: [0u8; 32],
+            source: 0,
+            anchor: 0,
+            reverse: false,
+        }
+    }
+}
+
+// How far from its anchor a port of this orientation is cut.
+pub fn cut_offset(k: usize, reverse: bool) -> u64
+    ensures { λ r. ⌜ r ≡ cutOffset k reverse ⌝ }
+{
+    let half = k / 2;
+    if reverse {
+        (k - half) as u64
+    } else {
+        half as u64
+    }
+}
+
+fn same_turn(a: bool, b: bool) -> bool
+    ensures { λ r. ⌜ r ≡ sameTurn a b ⌝ }
+{
+    if a { b } else { !b }
 }
 
 // The k bytes of a word at a byte offset, padded.
-pub fn letters_at(image: &[u8], at: usize, k: usize) -> [u8; 32]
-    requires { ⌜ (at + k ≤ length (now image)) × (k ≤ 32) ⌝ }
-    ensures { λ r. ⌜ r ≡ padded (part (now (image .entry)) at k) k ⌝ }
+fn letters_at(image: &[u8], at: usize, k: usize) -> [u8; 32]
+    requires { ⌜ (at + k ≤ length (now image)) × (k ≤ longestWord) ⌝ }
+    ensures { λ r. ⌜ r ≡ padded (take k (drop at (now (image .entry)))) k ⌝ }
 {
     let mut word = [0u8; 32];
     let mut i = 0;
@@ -90,7 +138,7 @@ pub fn letters_at(image: &[u8], at: usize, k: usize) -> [u8; 32]
 
 // The record at a byte offset.
 pub fn port_at(image: &[u8], at: usize, k: usize) -> Port
-    requires { ⌜ (at + k + 17 ≤ length (now image)) × (k ≤ 32) ⌝ }
+    requires { ⌜ (at + recordSize k ≤ length (now image)) × (k ≤ longestWord) ⌝ }
     ensures { λ r. ⌜ r ≡ portOf k (drop at (now (image .entry))) ⌝ }
 {
     let word = letters_at(image, at, k);
@@ -106,6 +154,8 @@ pub fn port_at(image: &[u8], at: usize, k: usize) -> Port
     }
 }
 
+// ---- the order of ports
+
 pub enum Order {
     Less,
     Equal,
@@ -113,7 +163,7 @@ pub enum Order {
 }
 
 // The first order that decides.
-pub fn and_then(a: Order, b: Order) -> Order
+fn and_then(a: Order, b: Order) -> Order
     ensures { λ r. ⌜ r ≡ andThen a b ⌝ }
 {
     match a {
@@ -123,7 +173,7 @@ pub fn and_then(a: Order, b: Order) -> Order
     }
 }
 
-pub fn num_order(x: u64, y: u64) -> Order
+fn num_order(x: u64, y: u64) -> Order
     ensures { λ r. ⌜ r ≡ numOrder x y ⌝ }
 {
     if x < y {
@@ -135,7 +185,7 @@ pub fn num_order(x: u64, y: u64) -> Order
     Order::Equal
 }
 
-pub fn flag_order(x: bool, y: bool) -> Order
+fn flag_order(x: bool, y: bool) -> Order
     ensures { λ r. ⌜ r ≡ flagOrder x y ⌝ }
 {
     if x {
@@ -145,7 +195,7 @@ pub fn flag_order(x: bool, y: bool) -> Order
     }
 }
 
-pub fn word_order(a: Port, b: Port) -> Order
+fn word_order(a: Port, b: Port) -> Order
     ensures { λ r. ⌜ r ≡ wordOrder (a .word) (b .word) ⌝ }
 {
     let mut i = 0;
@@ -163,6 +213,7 @@ pub fn word_order(a: Port, b: Port) -> Order
     Order::Equal
 }
 
+// By word, source, anchor, and forward before reverse.
 pub fn compare(a: Port, b: Port) -> Order
     ensures { λ r. ⌜ r ≡ portOrder a b ⌝ }
 {
@@ -174,4 +225,236 @@ pub fn compare(a: Port, b: Port) -> Order
         word_order(a, b),
         and_then(num_order(a.source, b.source), last),
     )
+}
+
+fn is_less(o: Order) -> bool
+    ensures { λ r. ⌜ r ≡ isLess o ⌝ }
+{
+    match o {
+        Order::Less => true,
+        Order::Equal => false,
+        Order::Greater => false,
+    }
+}
+
+fn is_equal(o: Order) -> bool
+    ensures { λ r. ⌜ r ≡ isEqual o ⌝ }
+{
+    match o {
+        Order::Less => false,
+        Order::Equal => true,
+        Order::Greater => false,
+    }
+}
+
+// Whether a record stands before another in the global list.
+pub fn is_record_below(a: Port, b: Port) -> bool
+    ensures { λ r. ⌜ r ≡ recordLt a b ⌝ }
+{
+    is_less(compare(a, b))
+}
+
+pub fn is_same_port(a: Port, b: Port) -> bool
+    ensures { λ r. ⌜ r ≡ samePort a b ⌝ }
+{
+    is_equal(compare(a, b))
+}
+
+// Whether a record stands before another in a lane's list: forward before reverse at one anchor.
+pub fn is_place_below(a: Port, b: Port) -> bool
+    ensures { λ r. ⌜ r ≡ placeLt a b ⌝ }
+{
+    if a.anchor < b.anchor {
+        return true;
+    }
+    if b.anchor < a.anchor {
+        return false;
+    }
+    if a.reverse { false } else { b.reverse }
+}
+
+// ---- lists of records: n that stand from base on
+
+// Where record i begins.
+pub fn offset(image: &[u8], base: usize, n: usize, k: usize, i: usize) -> usize
+    requires { ⌜ Records (now image) base n k × (i < n) ⌝ }
+    ensures { λ r. ⌜ Offset (now (image .entry)) base n k i r ⌝ }
+{
+    base + i * (k + Port::EXCESS)
+}
+
+pub fn record_at(image: &[u8], base: usize, n: usize, k: usize, i: usize) -> Port
+    requires { ⌜ Records (now image) base n k × (i < n) ⌝ }
+    ensures { λ r. ⌜ r ≡ getD (each (portOf k) (recordSize k) n (drop base (now (image .entry)))) i noPort ⌝ }
+{
+    let at = offset(image, base, n, k, i);
+    port_at(image, at, k)
+}
+
+pub fn anchor_at(image: &[u8], at: usize, k: usize) -> u64
+    requires { ⌜ at + recordSize k ≤ length (now image) ⌝ }
+    ensures { λ r. ⌜ r ≡ portOf k (drop at (now (image .entry))) .anchor ⌝ }
+{
+    word_at(image, at + k + 8)
+}
+
+pub fn source_at(image: &[u8], at: usize, k: usize) -> u64
+    requires { ⌜ at + recordSize k ≤ length (now image) ⌝ }
+    ensures { λ r. ⌜ r ≡ portOf k (drop at (now (image .entry))) .source ⌝ }
+{
+    word_at(image, at + k)
+}
+
+fn reverse_at(image: &[u8], at: usize, k: usize) -> bool
+    requires { ⌜ at + recordSize k ≤ length (now image) ⌝ }
+    ensures { λ r. ⌜ r ≡ portOf k (drop at (now (image .entry))) .reverse ⌝ }
+{
+    image[at + k + 16] == 1
+}
+
+// The anchor of record i.
+pub fn anchor_of(image: &[u8], base: usize, n: usize, k: usize, i: usize) -> u64
+    requires { ⌜ Records (now image) base n k × (i < n) ⌝ }
+    ensures { λ r. ⌜ r ≡ getD (each (portOf k) (recordSize k) n (drop base (now (image .entry)))) i noPort .anchor ⌝ }
+{
+    let at = offset(image, base, n, k, i);
+    anchor_at(image, at, k)
+}
+
+// The lane that record i names.
+pub fn source_of(image: &[u8], base: usize, n: usize, k: usize, i: usize) -> u64
+    requires { ⌜ Records (now image) base n k × (i < n) ⌝ }
+    ensures { λ r. ⌜ r ≡ getD (each (portOf k) (recordSize k) n (drop base (now (image .entry)))) i noPort .source ⌝ }
+{
+    let at = offset(image, base, n, k, i);
+    source_at(image, at, k)
+}
+
+fn is_before_at(image: &[u8], at: usize, k: usize, anchor: u64, reverse: bool) -> bool
+    requires { ⌜ at + recordSize k ≤ length (now image) ⌝ }
+    ensures { λ r. ⌜ r ≡ placeBefore anchor reverse (portOf k (drop at (now (image .entry)))) ⌝ }
+{
+    let here = anchor_at(image, at, k);
+    if here < anchor {
+        return true;
+    }
+    if anchor < here {
+        return false;
+    }
+    if reverse_at(image, at, k) {
+        false
+    } else {
+        reverse
+    }
+}
+
+// Whether record i stands before a place of its lane's list.
+pub fn is_before(
+    image: &[u8],
+    base: usize,
+    n: usize,
+    k: usize,
+    i: usize,
+    anchor: u64,
+    reverse: bool,
+) -> bool
+    requires { ⌜ Records (now image) base n k × (i < n) ⌝ }
+    ensures { λ r. ⌜ r ≡ placeBefore anchor reverse (getD (each (portOf k) (recordSize k) n (drop base (now (image .entry)))) i noPort) ⌝ }
+{
+    let at = offset(image, base, n, k, i);
+    is_before_at(image, at, k, anchor, reverse)
+}
+
+// ---- buckets
+
+// The order of the k letters at a byte offset and a word of k letters.
+fn letters_order(image: &[u8], at: usize, word: &[u8]) -> Order
+    requires { ⌜ at + length (now word) ≤ length (now image) ⌝ }
+    ensures { λ r. ⌜ r ≡ wordOrder (take (length (now (word .entry))) (drop at (now (image .entry)))) (now (word .entry)) ⌝ }
+{
+    let mut i = 0;
+    while i < word.len() {
+        let x = image[at + i];
+        let y = word[i];
+        if x < y {
+            return Order::Less;
+        }
+        if y < x {
+            return Order::Greater;
+        }
+        i += 1;
+    }
+    Order::Equal
+}
+
+fn is_word_below(image: &[u8], base: usize, n: usize, k: usize, i: usize, word: &[u8]) -> bool
+    requires { ⌜ Records (now image) base n k × (i < n) × (length (now word) ≡ k) ⌝ }
+    ensures { λ r. ⌜ r ≡ wordBelow (padded (now (word .entry)) k) (getD (each (portOf k) (recordSize k) n (drop base (now (image .entry)))) i noPort) ⌝ }
+{
+    let at = offset(image, base, n, k, i);
+    is_less(letters_order(image, at, word))
+}
+
+fn is_word_up_to(image: &[u8], base: usize, n: usize, k: usize, i: usize, word: &[u8]) -> bool
+    requires { ⌜ Records (now image) base n k × (i < n) × (length (now word) ≡ k) ⌝ }
+    ensures { λ r. ⌜ r ≡ wordUpTo (padded (now (word .entry)) k) (getD (each (portOf k) (recordSize k) n (drop base (now (image .entry)))) i noPort) ⌝ }
+{
+    let at = offset(image, base, n, k, i);
+    let o = letters_order(image, at, word);
+    match o {
+        Order::Less => true,
+        Order::Equal => true,
+        Order::Greater => false,
+    }
+}
+
+// How many records have a lower word.
+fn lower(image: &[u8], base: usize, n: usize, k: usize, word: &[u8]) -> usize
+    requires { ⌜ Sorted (now image) base n k × (length (now word) ≡ k) ⌝ }
+    ensures { λ r. ⌜ r ≡ count (wordBelow (padded (now (word .entry)) k)) (each (portOf k) (recordSize k) n (drop base (now (image .entry)))) ⌝ }
+{
+    let mut lo = 0;
+    let mut hi = n;
+    while lo < hi {
+        let mid = lo + (hi - lo) / 2;
+        if is_word_below(image, base, n, k, mid, word) {
+            lo = mid + 1;
+        } else {
+            hi = mid;
+        }
+    }
+    lo
+}
+
+// How many records have a lower or equal word.
+fn upper(image: &[u8], base: usize, n: usize, k: usize, word: &[u8]) -> usize
+    requires { ⌜ Sorted (now image) base n k × (length (now word) ≡ k) ⌝ }
+    ensures { λ r. ⌜ r ≡ count (wordUpTo (padded (now (word .entry)) k)) (each (portOf k) (recordSize k) n (drop base (now (image .entry)))) ⌝ }
+{
+    let mut lo = 0;
+    let mut hi = n;
+    while lo < hi {
+        let mid = lo + (hi - lo) / 2;
+        if is_word_up_to(image, base, n, k, mid, word) {
+            lo = mid + 1;
+        } else {
+            hi = mid;
+        }
+    }
+    lo
+}
+
+// The records with one word: those from lo on, up to hi.
+pub struct Members {
+    pub lo: usize,
+    pub hi: usize,
+}
+
+pub fn bucket(image: &[u8], base: usize, n: usize, k: usize, word: &[u8]) -> Members
+    requires { ⌜ Sorted (now image) base n k × (length (now word) ≡ k) ⌝ }
+    ensures { λ r. ⌜ r ≡ bucketOf (padded (now (word .entry)) k) (each (portOf k) (recordSize k) n (drop base (now (image .entry)))) ⌝ }
+{
+    let lo = lower(image, base, n, k, word);
+    let hi = upper(image, base, n, k, word);
+    Members { lo, hi }
 }

@@ -1,7 +1,7 @@
 use Prim.Native.Nat.{_-_}
 use Rattle.ground.specs.Lists.{split}
 use Rattle.image.specs.Image.{counts, lanePorts, portsOf}
-use Rattle.panel.specs.Panel.{laneRising, lanesRising}
+use Rattle.panel.specs.Refusals.{laneRising, lanesRising}
 use Rattle.image.proofs.Laws.{rows-length}
 use Rattle.ground.proofs.ListLaws.{AllFrom, all-start, all-again, all-fails, all-ends}
 use borrow.Author.Needs.{needs}
@@ -9,10 +9,10 @@ use Rattle.panel.proofs.are_lanes_rising.Statement.{statement}
 use Rattle.panel.proofs.are_lanes_rising.Tie as tie
 
 abbrev Inv-loop : tie.InvT-loop
-Inv-loop image h n i₀ i = AllFrom laneRising (split (counts h image) (lanePorts h image)) n i
+Inv-loop image h starts n i₀ i = AllFrom laneRising (split (counts h image) (lanePorts h image)) n i
 
 abbrev μ-loop : tie.MeasureT-loop
-μ-loop image h n i₀ i = n - i
+μ-loop image h starts n i₀ i = n - i
 
 pub are-lanes-rising-spec : {M : Type 1} → statement M
 unfolding lanesRising portsOf

@@ -1,6 +1,6 @@
 use Prim.Native.Nat.{_-_}
 use Rattle.image.specs.Image.{entries}
-use Rattle.panel.specs.Panel.{lengthOk}
+use Rattle.panel.specs.Refusals.{lengthOk}
 use Rattle.image.proofs.Laws.{entries-length}
 use Rattle.ground.proofs.ListLaws.{AllFrom, all-start, all-again, all-fails, all-ends}
 use borrow.Author.Needs.{needs}

@@ -1,6 +1,6 @@
 use Prim.Native.Nat.{_-_}
 use lib.ListN.{take, drop}
-use Rattle.panel.specs.Panel.{letter}
+use Rattle.panel.specs.Refusals.{letter}
 use Rattle.ground.proofs.ListLaws.{AllFrom, all-start, all-again, all-fails, all-ends}
 use Rattle.panel.proofs.Laws.{letters-length}
 use borrow.Author.Needs.{needs}

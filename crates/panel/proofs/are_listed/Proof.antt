@@ -1,6 +1,6 @@
 use Prim.Native.Nat.{_-_}
 use Rattle.image.specs.Image.{hub}
-use Rattle.panel.specs.Panel.{listed, sound8}
+use Rattle.panel.specs.Refusals.{listed, sound8}
 use Rattle.image.proofs.Laws.{hub-length}
 use Rattle.ground.proofs.ListLaws.{AllFrom, all-start, all-again, all-fails, all-ends}
 use borrow.Author.Needs.{needs}
@@ -8,10 +8,10 @@ use Rattle.panel.proofs.are_listed.Statement.{statement}
 use Rattle.panel.proofs.are_listed.Tie as tie
 
 abbrev Inv-loop : tie.InvT-loop
-Inv-loop image h n i₀ i = AllFrom (listed h image) (hub h image) n i
+Inv-loop image h starts n i₀ i = AllFrom (listed h image) (hub h image) n i
 
 abbrev μ-loop : tie.MeasureT-loop
-μ-loop image h n i₀ i = n - i
+μ-loop image h starts n i₀ i = n - i
 
 pub are-listed-spec : {M : Type 1} → statement M
 unfolding sound8

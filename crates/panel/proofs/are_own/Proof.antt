@@ -1,6 +1,6 @@
 use Prim.Native.Nat.{_-_}
 use Rattle.ground.specs.Lists.{numbersFrom}
-use Rattle.panel.specs.Panel.{ownRow, ownRows}
+use Rattle.panel.specs.Refusals.{ownRow, ownRows}
 use Rattle.ground.proofs.ListLaws.{AllFrom, all-start, all-again, all-fails, all-ends}
 use Rattle.panel.proofs.Laws.{lanes-numbers}
 use borrow.Author.Needs.{needs}
@@ -8,10 +8,10 @@ use Rattle.panel.proofs.are_own.Statement.{statement}
 use Rattle.panel.proofs.are_own.Tie as tie
 
 abbrev Inv-loop : tie.InvT-loop
-Inv-loop image h n i₀ i = AllFrom (ownRow h image) (numbersFrom 0 (h .lanes)) n i
+Inv-loop image h starts n i₀ i = AllFrom (ownRow h image) (numbersFrom 0 (h .lanes)) n i
 
 abbrev μ-loop : tie.MeasureT-loop
-μ-loop image h n i₀ i = n - i
+μ-loop image h starts n i₀ i = n - i
 
 pub are-own-spec : {M : Type 1} → statement M
 unfolding ownRows

@@ -1,7 +1,7 @@
 use Prim.Native.Nat.{_-_, _+_}
 use lib.ListN.{drop}
 use Rattle.ground.specs.Lists.{each}
-use Rattle.panel.specs.Panel.{isTrue, soundRecord, soundRecords}
+use Rattle.panel.specs.Refusals.{isTrue, soundRecord, soundRecords}
 use Rattle.ground.proofs.ListLaws.{AllFrom, all-start, all-again, all-fails, all-ends}
 use Rattle.panel.proofs.Laws.{marks-length}
 use borrow.Author.Needs.{needs}

@@ -1,6 +1,7 @@
 use Prim.Native.Nat.{_-_}
 use Rattle.image.specs.Image.{hub}
-use Rattle.panel.specs.Panel.{hubLt, hubRising}
+use Rattle.panel.specs.Refusals.{hubRising}
+use Rattle.storage.specs.Orders.{recordLt}
 use Rattle.image.proofs.Laws.{hub-length}
 use Rattle.ground.proofs.ListLaws.{RisingFrom, rising-none, rising-start, rising-again, rising-fails, rising-ends}
 use borrow.Author.Needs.{needs}
@@ -8,7 +9,7 @@ use Rattle.panel.proofs.is_hub_rising.Statement.{statement}
 use Rattle.panel.proofs.is_hub_rising.Tie as tie
 
 abbrev Inv-loop : tie.InvT-loop
-Inv-loop image h n last₀ i₀ last i = RisingFrom hubLt (hub h image) n last i
+Inv-loop image h n last₀ i₀ last i = RisingFrom recordLt (hub h image) n last i
 
 abbrev μ-loop : tie.MeasureT-loop
 μ-loop image h n last₀ i₀ last i = n - i

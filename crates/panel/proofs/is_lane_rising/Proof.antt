@@ -1,6 +1,7 @@
 use Prim.Native.Nat.{_-_}
 use Rattle.image.specs.Image.{portsOf}
-use Rattle.panel.specs.Panel.{placeLt, laneRising}
+use Rattle.panel.specs.Refusals.{laneRising}
+use Rattle.storage.specs.Orders.{placeLt}
 use Rattle.image.proofs.Laws.{row-length}
 use Rattle.ground.proofs.ListLaws.{RisingFrom, rising-none, rising-start, rising-again, rising-fails, rising-ends}
 use borrow.Author.Needs.{needs}

@@ -1,6 +1,6 @@
 use Prim.Native.Nat.{_-_}
 use Rattle.image.specs.Image.{portsOf}
-use Rattle.panel.specs.Panel.{from, ownRow}
+use Rattle.panel.specs.Refusals.{from, ownRow}
 use Rattle.image.proofs.Laws.{row-length}
 use Rattle.ground.proofs.ListLaws.{AllFrom, all-start, all-again, all-fails, all-ends}
 use borrow.Author.Needs.{needs}

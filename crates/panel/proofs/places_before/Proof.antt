@@ -1,19 +1,21 @@
-use Prim.Native.Nat.{_-_}
-use Rattle.image.specs.Image.{portsOf}
-use Rattle.storage.specs.Records.{noPort}
-use Rattle.panel.specs.Panel.{placeBelow}
-use Rattle.image.proofs.Laws.{row-length}
-use Rattle.ground.proofs.ListLaws.{Cut, cut-start, cut-done}
-use Rattle.panel.proofs.Laws.{places-up, places-down}
 use borrow.Author.Needs.{needs}
+use Rattle.panel.proofs.Laws.{places-up, places-down}
+use Rattle.storage.specs.Bytes.{number}
+use Rattle.storage.specs.Records.{noPort}
+use Rattle.ground.proofs.ListLaws.{cut-done, Cut, cut-start}
+use Rattle.storage.specs.Orders.{placeBefore}
+use Rattle.image.proofs.Laws.{row-length}
+use Rattle.image.specs.Image.{portsOf}
+use Prim.Native.Nat.{_-_}
+use Rattle.ground.specs.Lists.{count}
 use Rattle.panel.proofs.places_before.Statement.{statement}
 use Rattle.panel.proofs.places_before.Tie as tie
 
 abbrev Inv-loop : tie.InvT-loop
-Inv-loop image h l g lo₀ hi₀ lo hi = Cut (placeBelow g) (portsOf h image (l .number)) noPort (l .count) lo hi
+Inv-loop image h l anchor reverse lo₀ hi₀ lo hi = Cut (placeBefore anchor reverse) (portsOf h image (l .number)) noPort (l .count) lo hi
 
 abbrev μ-loop : tie.MeasureT-loop
-μ-loop image h l g lo₀ hi₀ lo hi = hi - lo
+μ-loop image h l anchor reverse lo₀ hi₀ lo hi = hi - lo
 
 pub places-before-spec : {M : Type 1} → statement M
 places-before-spec =
@@ -22,8 +24,7 @@ places-before-spec =
     (λ c. search cut-start)  -- loop-holds
     (λ c. search needs)  -- sub-mid
     (λ c. search needs)  -- add-mid
-    (λ c κs. search needs)  -- lane-port-requires
-    (λ c κs. search needs)  -- is-place-below-requires
+    (λ c κs. search needs)  -- is-lane-port-before-requires
     (λ c. search needs)  -- add-lo
     (λ c. search needs)  -- loop-less
     (λ c. search places-up)  -- loop-again

@@ -14,7 +14,7 @@ add-result-2 : tie.Need-add-result-2
 add-result-2 c = search needs
 
 returns : tie.Need-returns
-returns c = cc
+returns c = rw (c .before .if1 .taken)
 
 returns-2 : tie.Need-returns-2
 returns-2 c = rw (c .before .if1 .left)
