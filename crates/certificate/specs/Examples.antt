@@ -77,31 +77,43 @@ panelE2 =
     let e = set (set (set (set (set panelE 16 2) 24 2) 56 144) 64 160) 72 236 in
     take 136 e ++ (word 1 ++ (take 8 (drop 136 e) ++ (word 1 ++ drop 144 e)))
 
--- the bucket of a word of two letters on panel E
-unfoldable pub bucket : ℕ → ℕ → List ℕ
+-- what a panel answers
+pub record Answers : Type 0 where
+  pub bucket : List ℕ → List ℕ
+  pub answer : SearchBudget → SearchReply
+  pub left : SearchBudget → Rooms
+  pub kept : SearchBudget → Kept Evaluated
+
+unfoldable pub on : List ℕ → Answers
 unfolding little number each split sum all any count keep after rising numbersFrom distinct portOf wordOrder portOrder headerOf sound2 sound3 opened entryOf entries counts pathCounts paths lanePorts hub portsOf startOf families pathsOf zipLanes panelBy panelOf countOk names noTwice sound5a sound5b sound5 lengthOk sound4 letter soundPort soundRecord soundRecords place placeLt hubLt hubRising laneRising lanesRising samePort listed sound8 from ownRow ownRows sound6 sound7 portsChecked later checked panelE panelRefusal joining portsAt encode widthOk someOfEach inBounds budgetRefusal enter terminalTask memberTask portUnit hubUnit unitOf units run seeds seeded afterSeeding walkFrom walk mostSwitches tallyOf tiesTo lowered added keepOne keepAll sameList evaluated scoresRefusal walked evaluationRefusal keptOf searchedAs searchFrom search stackWords framesLeft mostPaths slotWidth keptLeft scoresLeftIn roomsRefusal leftIn searchRefusal replyOf searchAnswer roomsAfter searchRooms bucketLo bucketHi Ieee.lt Ieee.le Ieee.sub Ieee.ofBits
-bucket a b = bucketLo (panelOf panelE) (padded (a ∷ b ∷ []) 2) ∷ bucketHi (panelOf panelE) (padded (a ∷ b ∷ []) 2) ∷ []
+on s =
+    record {
+      bucket = λ w. bucketLo (panelOf s) w ∷ bucketHi (panelOf s) w ∷ [];
+      answer = λ b. searchAnswer s b scores rooms;
+      left = λ b. searchRooms s b scores rooms;
+      kept = λ b. search (panelOf s) b scores .state .kept;
+    }
+
+-- the bucket of a word of two letters on panel E
+abbrev pub bucket : ℕ → ℕ → List ℕ
+bucket a b = on panelE .bucket (padded (a ∷ b ∷ []) 2)
 
 -- a search: refusal, status, work, evaluations, donors, families done, frames left, pending
-unfoldable pub outcome : List ℕ → SearchBudget → List ℕ
-unfolding little number each split sum all any count keep after rising numbersFrom distinct portOf wordOrder portOrder headerOf sound2 sound3 opened entryOf entries counts pathCounts paths lanePorts hub portsOf startOf families pathsOf zipLanes panelBy panelOf countOk names noTwice sound5a sound5b sound5 lengthOk sound4 letter soundPort soundRecord soundRecords place placeLt hubLt hubRising laneRising lanesRising samePort listed sound8 from ownRow ownRows sound6 sound7 portsChecked later checked panelE panelRefusal joining portsAt encode widthOk someOfEach inBounds budgetRefusal enter terminalTask memberTask portUnit hubUnit unitOf units run seeds seeded afterSeeding walkFrom walk mostSwitches tallyOf tiesTo lowered added keepOne keepAll sameList evaluated scoresRefusal walked evaluationRefusal keptOf searchedAs searchFrom search stackWords framesLeft mostPaths slotWidth keptLeft scoresLeftIn roomsRefusal leftIn searchRefusal replyOf searchAnswer roomsAfter searchRooms bucketLo bucketHi Ieee.lt Ieee.le Ieee.sub Ieee.ofBits
+abbrev pub outcome : List ℕ → SearchBudget → List ℕ
 outcome s b =
-    let r = searchAnswer s b scores rooms in
+    let r = on s .answer b in
     r .refusal ∷ r .status ∷ r .work ∷ r .evaluations ∷ r .donors ∷ r .families ∷ r .frames ∷ r .pending ∷ []
 
 -- what it leaves as pending: the third frame's slot, source, cut, reverse
-unfoldable pub third : SearchBudget → List ℕ
-unfolding little number each split sum all any count keep after rising numbersFrom distinct portOf wordOrder portOrder headerOf sound2 sound3 opened entryOf entries counts pathCounts paths lanePorts hub portsOf startOf families pathsOf zipLanes panelBy panelOf countOk names noTwice sound5a sound5b sound5 lengthOk sound4 letter soundPort soundRecord soundRecords place placeLt hubLt hubRising laneRising lanesRising samePort listed sound8 from ownRow ownRows sound6 sound7 portsChecked later checked panelE panelRefusal joining portsAt encode widthOk someOfEach inBounds budgetRefusal enter terminalTask memberTask portUnit hubUnit unitOf units run seeds seeded afterSeeding walkFrom walk mostSwitches tallyOf tiesTo lowered added keepOne keepAll sameList evaluated scoresRefusal walked evaluationRefusal keptOf searchedAs searchFrom search stackWords framesLeft mostPaths slotWidth keptLeft scoresLeftIn roomsRefusal leftIn searchRefusal replyOf searchAnswer roomsAfter searchRooms bucketLo bucketHi Ieee.lt Ieee.le Ieee.sub Ieee.ofBits
-third b = take 4 (drop 20 (searchRooms panelE b scores rooms .frames))
+abbrev pub third : SearchBudget → List ℕ
+third b = take 4 (drop 20 (on panelE .left b .frames))
 
 -- the tied list as words, and the status
-unfoldable pub tiedOf : SearchBudget → List (List ℕ)
-unfolding little number each split sum all any count keep after rising numbersFrom distinct portOf wordOrder portOrder headerOf sound2 sound3 opened entryOf entries counts pathCounts paths lanePorts hub portsOf startOf families pathsOf zipLanes panelBy panelOf countOk names noTwice sound5a sound5b sound5 lengthOk sound4 letter soundPort soundRecord soundRecords place placeLt hubLt hubRising laneRising lanesRising samePort listed sound8 from ownRow ownRows sound6 sound7 portsChecked later checked panelE panelRefusal joining portsAt encode widthOk someOfEach inBounds budgetRefusal enter terminalTask memberTask portUnit hubUnit unitOf units run seeds seeded afterSeeding walkFrom walk mostSwitches tallyOf tiesTo lowered added keepOne keepAll sameList evaluated scoresRefusal walked evaluationRefusal keptOf searchedAs searchFrom search stackWords framesLeft mostPaths slotWidth keptLeft scoresLeftIn roomsRefusal leftIn searchRefusal replyOf searchAnswer roomsAfter searchRooms bucketLo bucketHi Ieee.lt Ieee.le Ieee.sub Ieee.ofBits
-tiedOf b = map (λ e. encode (e .assignment)) (search (panelOf panelE) b scores .state .kept .tied)
+abbrev pub tiedOf : SearchBudget → List (List ℕ)
+tiedOf b = map (λ e. encode (e .assignment)) (on panelE .kept b .tied)
 
-unfoldable pub statusIs : SearchBudget → ℕ
-unfolding little number each split sum all any count keep after rising numbersFrom distinct portOf wordOrder portOrder headerOf sound2 sound3 opened entryOf entries counts pathCounts paths lanePorts hub portsOf startOf families pathsOf zipLanes panelBy panelOf countOk names noTwice sound5a sound5b sound5 lengthOk sound4 letter soundPort soundRecord soundRecords place placeLt hubLt hubRising laneRising lanesRising samePort listed sound8 from ownRow ownRows sound6 sound7 portsChecked later checked panelE panelRefusal joining portsAt encode widthOk someOfEach inBounds budgetRefusal enter terminalTask memberTask portUnit hubUnit unitOf units run seeds seeded afterSeeding walkFrom walk mostSwitches tallyOf tiesTo lowered added keepOne keepAll sameList evaluated scoresRefusal walked evaluationRefusal keptOf searchedAs searchFrom search stackWords framesLeft mostPaths slotWidth keptLeft scoresLeftIn roomsRefusal leftIn searchRefusal replyOf searchAnswer roomsAfter searchRooms bucketLo bucketHi Ieee.lt Ieee.le Ieee.sub Ieee.ofBits
-statusIs b = searchAnswer panelE b scores rooms .status
+abbrev pub statusIs : SearchBudget → ℕ
+statusIs b = on panelE .answer b .status
 
 abbrev pub nativeWords : List ℕ
 nativeWords = 0 ∷ 1 ∷ 1 ∷ 0 ∷ 0 ∷ 10 ∷ 0 ∷ []
@@ -148,7 +160,7 @@ pub record Table : Type 0 where
   pub p11 : outcome panelE2 (budget 1 1 32 8 0) ≡ 0 ∷ 4 ∷ 1 ∷ 1 ∷ 0 ∷ 0 ∷ 0 ∷ 0 ∷ []
 
 pub table : Table
-unfolding keep portsAt joining bucket outcome panelE2 third tiedOf statusIs
+unfolding on keep portsAt joining encode panelE panelE2 Ieee.ofBits
 table =
     record {
       p1 = refl;

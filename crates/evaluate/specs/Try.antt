@@ -18,6 +18,7 @@ use Rattle.graph.specs.Check.{portsChecked, later, checked}
 use Rattle.graph.specs.PanelE.{panelE}
 use Rattle.evaluate.specs.declared.Segment.{Segment}
 use Rattle.evaluate.specs.declared.AssignmentReply.{AssignmentReply}
+use Rattle.evaluate.specs.declared.Refusal.{Refusal}
 use Rattle.evaluate.specs.Refusals.{panelRefusal}
 use Rattle.evaluate.specs.Segments.{Route, joining, normalize, overlap, apart}
 use Rattle.evaluate.specs.Ports.{portsAt, bucketLo, bucketHi}
@@ -28,10 +29,25 @@ use Rattle.evaluate.specs.Check.{mostWords, leaves, jointRefusal, joints
 abbrev shown : AssignmentReply → List ℕ
 shown r = r .refusal ∷ r .place ∷ r .words ∷ []
 
+-- the check on panel E, what it leaves in out, and its refusals on panel E with both lanes in one family
+record Calls : Type 0 where
+  answer : List ℕ → ℕ → AssignmentReply
+  out : List ℕ → List ℕ → List ℕ
+  both : List ℕ → ℕ → Refusal
+
+unfoldable E : Calls
+unfolding little number each split sum all any count keep after rising numbersFrom distinct portOf wordOrder portOrder headerOf sound2 sound3 opened entryOf entries counts pathCounts paths lanePorts hub portsOf startOf families pathsOf zipLanes panelBy panelOf countOk names noTwice sound5a sound5b sound5 lengthOk sound4 letter soundPort soundRecord soundRecords place placeLt hubLt hubRising laneRising lanesRising samePort listed sound8 from ownRow ownRows sound6 sound7 portsChecked later checked panelE panelRefusal joining apart portsAt encode readSegments readRoutes readAssignment decode leaves jointRefusal jointsRefusal normalRefusal routeRefusal routesRefusal overlapRefusal assignmentRefusal wordsRefusal checkRefusal normalWords checkAnswer checkOut
+E =
+    let p = panelOf panelE in
+    record {
+      answer = checkAnswer panelE;
+      out = checkOut panelE;
+      both = wordsRefusal (record { k = p .k; lanes = p .lanes; families = (0 ∷ 1 ∷ []) ∷ []; hub = p .hub });
+    }
+
 -- what the check of these words answers on panel E, with so many words of room
-unfoldable onE : ℕ → List ℕ → List ℕ
-unfolding little number each split sum all any count keep after rising numbersFrom distinct portOf wordOrder portOrder headerOf sound2 sound3 opened entryOf entries counts pathCounts paths lanePorts hub portsOf startOf families pathsOf zipLanes panelBy panelOf countOk names noTwice sound5a sound5b sound5 lengthOk sound4 letter soundPort soundRecord soundRecords place placeLt hubLt hubRising laneRising lanesRising samePort listed sound8 from ownRow ownRows sound6 sound7 portsChecked later checked panelE panelRefusal joining apart portsAt encode readSegments readRoutes readAssignment decode leaves jointRefusal jointsRefusal normalRefusal routeRefusal routesRefusal overlapRefusal assignmentRefusal wordsRefusal checkRefusal normalWords checkAnswer
-onE room ws = shown (checkAnswer panelE ws room)
+abbrev onE : ℕ → List ℕ → List ℕ
+onE room ws = shown (E .answer ws room)
 
 -- accepted: the native, the native in two pieces, the mosaic of 01's sheet
 accepted : onE 7 (0 ∷ 1 ∷ 1 ∷ 0 ∷ 0 ∷ 10 ∷ 0 ∷ [])
@@ -39,7 +55,7 @@ accepted : onE 7 (0 ∷ 1 ∷ 1 ∷ 0 ∷ 0 ∷ 10 ∷ 0 ∷ [])
     ∷ onE 100 (0 ∷ 1 ∷ 3 ∷ 0 ∷ 0 ∷ 4 ∷ 0 ∷ 1 ∷ 6 ∷ 8 ∷ 0 ∷ 0 ∷ 7 ∷ 10 ∷ 0 ∷ [])
     ∷ []
     ≡ (0 ∷ 0 ∷ 7 ∷ []) ∷ (0 ∷ 0 ∷ 7 ∷ []) ∷ (0 ∷ 0 ∷ 15 ∷ []) ∷ []
-unfolding onE
+unfolding E
 accepted = refl
 
 -- 21 before 22; 22: no words, counts of 2^64 - 1, a reverse of 2, a left-over word
@@ -51,7 +67,7 @@ words : onE 6 (0 ∷ 1 ∷ 1 ∷ 0 ∷ 0 ∷ 10 ∷ 2 ∷ [])
     ∷ onE 100 (0 ∷ 1 ∷ 1 ∷ 0 ∷ 0 ∷ 10 ∷ 0 ∷ 0 ∷ [])
     ∷ []
     ≡ (21 ∷ 0 ∷ 0 ∷ []) ∷ (22 ∷ 0 ∷ 0 ∷ []) ∷ (22 ∷ 0 ∷ 0 ∷ []) ∷ (22 ∷ 0 ∷ 0 ∷ []) ∷ (22 ∷ 0 ∷ 0 ∷ []) ∷ (22 ∷ 0 ∷ 0 ∷ []) ∷ []
-unfolding onE
+unfolding E
 words = refl
 
 -- 65,536 words are not over the bound, 65,537 are: both are malformed here, so only the bound's test is shown
@@ -74,16 +90,11 @@ routes : onE 100 (1 ∷ 0 ∷ [])
     ∷ []
     ≡ (23 ∷ 0 ∷ 0 ∷ []) ∷ (24 ∷ 0 ∷ 0 ∷ []) ∷ (25 ∷ 0 ∷ 0 ∷ []) ∷ (26 ∷ 0 ∷ 0 ∷ []) ∷ (26 ∷ 0 ∷ 0 ∷ []) ∷ (26 ∷ 0 ∷ 0 ∷ [])
     ∷ (27 ∷ 0 ∷ 0 ∷ []) ∷ (27 ∷ 0 ∷ 0 ∷ []) ∷ (27 ∷ 0 ∷ 0 ∷ []) ∷ (28 ∷ 0 ∷ 0 ∷ []) ∷ (29 ∷ 0 ∷ 0 ∷ []) ∷ (30 ∷ 0 ∷ 0 ∷ []) ∷ []
-unfolding onE
+unfolding E
 routes = refl
 
--- panel E with both lanes in one family
-unfoldable onBoth : List ℕ → List ℕ
-unfolding little number each split sum all any count keep after rising numbersFrom distinct portOf wordOrder portOrder headerOf sound2 sound3 opened entryOf entries counts pathCounts paths lanePorts hub portsOf startOf families pathsOf zipLanes panelBy panelOf countOk names noTwice sound5a sound5b sound5 lengthOk sound4 letter soundPort soundRecord soundRecords place placeLt hubLt hubRising laneRising lanesRising samePort listed sound8 from ownRow ownRows sound6 sound7 portsChecked later checked panelE panelRefusal joining apart portsAt encode readSegments readRoutes readAssignment decode leaves jointRefusal jointsRefusal normalRefusal routeRefusal routesRefusal overlapRefusal assignmentRefusal wordsRefusal checkRefusal normalWords checkAnswer
-onBoth ws =
-    let p = panelOf panelE in
-    let r = wordsRefusal (record { k = p .k; lanes = p .lanes; families = (0 ∷ 1 ∷ []) ∷ []; hub = p .hub }) ws 100 in
-    r .number ∷ r .place ∷ []
+abbrev onBoth : List ℕ → List ℕ
+onBoth ws = E .both ws 100 .number ∷ E .both ws 100 .place ∷ []
 
 -- both whole; 25 in route 1; 27 in route 0 before 25 in route 1; 26 in route 1 before an overlap; 31, where route 0 takes of lane 1
 places : onBoth (0 ∷ 2 ∷ 1 ∷ 0 ∷ 0 ∷ 10 ∷ 0 ∷ 1 ∷ 1 ∷ 0 ∷ 10 ∷ 0 ∷ [])
@@ -93,17 +104,16 @@ places : onBoth (0 ∷ 2 ∷ 1 ∷ 0 ∷ 0 ∷ 10 ∷ 0 ∷ 1 ∷ 1 ∷ 0 ∷ 10
     ∷ onBoth (0 ∷ 2 ∷ 3 ∷ 0 ∷ 0 ∷ 4 ∷ 0 ∷ 1 ∷ 6 ∷ 8 ∷ 0 ∷ 0 ∷ 7 ∷ 10 ∷ 0 ∷ 1 ∷ 1 ∷ 0 ∷ 10 ∷ 0 ∷ [])
     ∷ []
     ≡ (0 ∷ 0 ∷ []) ∷ (25 ∷ 1 ∷ []) ∷ (27 ∷ 0 ∷ []) ∷ (26 ∷ 1 ∷ []) ∷ (31 ∷ 0 ∷ []) ∷ []
-unfolding onBoth
+unfolding E
 places = refl
 
 -- out afterwards: the normal form and the rest as it was; on a refusal, as it was
-unfoldable outOnE : List ℕ → List ℕ → List ℕ
-unfolding little number each split sum all any count keep after rising numbersFrom distinct portOf wordOrder portOrder headerOf sound2 sound3 opened entryOf entries counts pathCounts paths lanePorts hub portsOf startOf families pathsOf zipLanes panelBy panelOf countOk names noTwice sound5a sound5b sound5 lengthOk sound4 letter soundPort soundRecord soundRecords place placeLt hubLt hubRising laneRising lanesRising samePort listed sound8 from ownRow ownRows sound6 sound7 portsChecked later checked panelE panelRefusal joining apart portsAt encode readSegments readRoutes readAssignment decode leaves jointRefusal jointsRefusal normalRefusal routeRefusal routesRefusal overlapRefusal assignmentRefusal wordsRefusal checkRefusal normalWords checkAnswer checkOut
-outOnE ws out = checkOut panelE ws out
+abbrev outOnE : List ℕ → List ℕ → List ℕ
+outOnE ws out = E .out ws out
 
 written : outOnE (0 ∷ 1 ∷ 2 ∷ 0 ∷ 0 ∷ 4 ∷ 0 ∷ 0 ∷ 4 ∷ 10 ∷ 0 ∷ []) (replicate 12 5)
     ∷ outOnE (0 ∷ 1 ∷ 0 ∷ []) (replicate 4 5)
     ∷ []
     ≡ (0 ∷ 1 ∷ 1 ∷ 0 ∷ 0 ∷ 10 ∷ 0 ∷ 5 ∷ 5 ∷ 5 ∷ 5 ∷ 5 ∷ []) ∷ (5 ∷ 5 ∷ 5 ∷ 5 ∷ []) ∷ []
-unfolding outOnE
+unfolding E
 written = refl

@@ -51,13 +51,33 @@ shown r =
     r .refusal ∷ r .place ∷ r .status ∷ r .work ∷ r .evaluations ∷ r .natives ∷ r .donors ∷ r .«non_native» ∷ r .mixed ∷ r .«mixed_identity»
     ∷ r .switches ∷ r .families ∷ r .optima ∷ r .discarded ∷ r .frames ∷ r .pending ∷ []
 
-unfoldable onE : SearchBudget → List ℕ → Rooms → List ℕ
+-- the public calls, and the unbudgeted walk, on panel E
+record Calls : Type 0 where
+  answer : SearchBudget → List Float → Rooms → SearchReply
+  rooms : SearchBudget → List Float → Rooms → Rooms
+  list : SearchBudget → ℕ → ListRooms → ListReply
+  listRooms : SearchBudget → ℕ → ListRooms → ListRooms
+  units : ℕ → Phase
+  deepest : ℕ → ℕ
+
+unfoldable E : Calls
 unfolding little number each split sum all any count keep after rising numbersFrom distinct portOf wordOrder portOrder headerOf sound2 sound3 opened entryOf entries counts pathCounts paths lanePorts hub portsOf startOf families pathsOf zipLanes panelBy panelOf countOk names noTwice sound5a sound5b sound5 lengthOk sound4 letter soundPort soundRecord soundRecords place placeLt hubLt hubRising laneRising lanesRising samePort listed sound8 from ownRow ownRows sound6 sound7 portsChecked later checked panelE panelRefusal encode widthOk someOfEach inBounds budgetRefusal enter terminalTask memberTask portUnit hubUnit unitOf units run seeds seeded afterSeeding walkFrom walk nativesOf outset deepest mostSwitches tallyOf tiesTo lowered added keepOne keepAll sameList evaluated scoresRefusal walked evaluationRefusal keptOf searchedAs searchFrom search stackWords framesLeft mostPaths slotWidth keptLeft scoresLeftIn roomsRefusal listRoomsRefusal leftIn searchRefusal replyOf searchAnswer roomsAfter searchRooms listRefusal fitting written listReplyOf listAnswer listedIn listRooms bucketLo bucketHi Ieee.lt Ieee.le Ieee.sub Ieee.ofBits
-onE b xs rs = shown (searchAnswer panelE b (map double xs) rs)
+E =
+    record {
+      answer = searchAnswer panelE;
+      rooms = searchRooms panelE;
+      list = listAnswer panelE;
+      listRooms = listRooms panelE;
+      units = λ n. units (panelOf panelE) unlimited n (outset (panelOf panelE));
+      deepest = λ n. deepest (panelOf panelE) n (outset (panelOf panelE));
+    }
+
+abbrev onE : SearchBudget → List ℕ → Rooms → List ℕ
+onE b xs rs = shown (E .answer b (map double xs) rs)
 
 sheet : onE (budget 100000 1000 32 8 0) (0x4014000000000000 ∷ 0x4014000000000000 ∷ 0x4010000000000000 ∷ []) (rooms 330 1310 9)
     ≡ 0 ∷ 0 ∷ 1 ∷ 21 ∷ 3 ∷ 1 ∷ 6 ∷ 1 ∷ 1 ∷ 1 ∷ 2 ∷ 1 ∷ 1 ∷ 0 ∷ 0 ∷ 0 ∷ []
-unfolding onE
+unfolding E Ieee.ofBits
 sheet = refl
 
 -- scores 5, 5, 4
@@ -65,8 +85,7 @@ abbrev scores : List ℕ
 scores = 0x4014000000000000 ∷ 0x4014000000000000 ∷ 0x4010000000000000 ∷ []
 
 -- the refusal and its place
-unfoldable refusedOnE : SearchBudget → List ℕ → Rooms → List ℕ
-unfolding onE
+abbrev refusedOnE : SearchBudget → List ℕ → Rooms → List ℕ
 refusedOnE b xs rs = take 2 (onE b xs rs)
 
 -- 11: a budget of 0; a tie width of -1, of infinity; -0.0 passes, and so do budgets of 2^64 - 1; 12: over the bounds; 13: each room one word short
@@ -85,7 +104,7 @@ refusals : refusedOnE (budget 0 1000 32 8 0) scores (rooms 330 1310 9)
     ∷ []
     ≡ (11 ∷ 0 ∷ []) ∷ (11 ∷ 0 ∷ []) ∷ (11 ∷ 0 ∷ []) ∷ (11 ∷ 0 ∷ []) ∷ (11 ∷ 0 ∷ []) ∷ (11 ∷ 0 ∷ []) ∷ (0 ∷ 0 ∷ []) ∷ (12 ∷ 0 ∷ []) ∷ (12 ∷ 0 ∷ [])
     ∷ (13 ∷ 0 ∷ []) ∷ (13 ∷ 0 ∷ []) ∷ (13 ∷ 0 ∷ []) ∷ []
-unfolding refusedOnE
+unfolding E Ieee.ofBits
 refusals = refl
 
 -- 14 and 15 by the first evaluation concerned; scores that are not reached are not looked at
@@ -94,19 +113,18 @@ unscored : refusedOnE (budget 100000 1000 32 8 0) (0x4014000000000000 ∷ 0x4014
     ∷ refusedOnE (budget 100000 2 32 8 0) (0x4014000000000000 ∷ 0x4014000000000000 ∷ 0x7ff0000000000000 ∷ []) (rooms 330 1310 9)
     ∷ []
     ≡ (14 ∷ 3 ∷ []) ∷ (15 ∷ 2 ∷ []) ∷ (0 ∷ 0 ∷ []) ∷ []
-unfolding refusedOnE
+unfolding E Ieee.ofBits
 unscored = refl
 
 -- ---- the rooms at exit, from rooms of fives
 
-unfoldable roomsOnE : SearchBudget → List ℕ → Rooms → Rooms
-unfolding little number each split sum all any count keep after rising numbersFrom distinct portOf wordOrder portOrder headerOf sound2 sound3 opened entryOf entries counts pathCounts paths lanePorts hub portsOf startOf families pathsOf zipLanes panelBy panelOf countOk names noTwice sound5a sound5b sound5 lengthOk sound4 letter soundPort soundRecord soundRecords place placeLt hubLt hubRising laneRising lanesRising samePort listed sound8 from ownRow ownRows sound6 sound7 portsChecked later checked panelE panelRefusal encode widthOk someOfEach inBounds budgetRefusal enter terminalTask memberTask portUnit hubUnit unitOf units run seeds seeded afterSeeding walkFrom walk nativesOf outset deepest mostSwitches tallyOf tiesTo lowered added keepOne keepAll sameList evaluated scoresRefusal walked evaluationRefusal keptOf searchedAs searchFrom search stackWords framesLeft mostPaths slotWidth keptLeft scoresLeftIn roomsRefusal listRoomsRefusal leftIn searchRefusal replyOf searchAnswer roomsAfter searchRooms listRefusal fitting written listReplyOf listAnswer listedIn listRooms bucketLo bucketHi Ieee.lt Ieee.le Ieee.sub Ieee.ofBits
-roomsOnE b xs rs = searchRooms panelE b (map double xs) rs
+abbrev roomsOnE : SearchBudget → List ℕ → Rooms → Rooms
+roomsOnE b xs rs = E .rooms b (map double xs) rs
 
 -- P9's frames and pending child, and a word that stays
 frames : roomsOnE (budget 100000 1000 2 1 0) scores (rooms 31 33 2) .frames
     ≡ 0 ∷ 0 ∷ 0 ∷ 0 ∷ 0 ∷ 2 ∷ 2 ∷ 2 ∷ 0 ∷ 0 ∷ (0 ∷ 1 ∷ 6 ∷ 0 ∷ 0 ∷ 3 ∷ 3 ∷ 4 ∷ 0 ∷ 4 ∷ (0 ∷ 0 ∷ 7 ∷ 0 ∷ 1 ∷ 0 ∷ 0 ∷ 0 ∷ 6 ∷ 8 ∷ (5 ∷ [])))
-unfolding roomsOnE
+unfolding E Ieee.ofBits
 frames = refl
 
 -- after the sheet's walk: no frame; the mosaic as incumbent and as the one tied optimum, a spare; their scores
@@ -116,25 +134,24 @@ kept : roomsOnE (budget 100000 1000 3 1 0) scores (rooms 40 46 3)
       kept = 0 ∷ 1 ∷ 3 ∷ 0 ∷ 0 ∷ 4 ∷ 0 ∷ 1 ∷ 6 ∷ 8 ∷ 0 ∷ 0 ∷ 7 ∷ 10 ∷ 0 ∷ (0 ∷ 1 ∷ 3 ∷ 0 ∷ 0 ∷ 4 ∷ 0 ∷ 1 ∷ 6 ∷ 8 ∷ 0 ∷ 0 ∷ 7 ∷ 10 ∷ 0 ∷ (replicate 15 0 ++ (5 ∷ [])));
       scores = fin false 1 (pos 2) ∷ fin false 1 (pos 2) ∷ fin false 5 (pos 0) ∷ [];
     }
-unfolding roomsOnE
+unfolding E Ieee.ofBits
 kept = refl
 
 -- 14 and 15: the needed words are zero, the others stay; 13: all stay
 cleared : roomsOnE (budget 100000 1000 2 1 0) [] (rooms 31 34 3)
     ≡ record { frames = replicate 30 0 ++ (5 ∷ []); kept = replicate 33 0 ++ (5 ∷ []); scores = fin false 0 (pos 0) ∷ fin false 0 (pos 0) ∷ fin false 5 (pos 0) ∷ [] }
-unfolding roomsOnE
+unfolding E Ieee.ofBits
 cleared = refl
 
 unchanged : roomsOnE (budget 100000 1000 2 1 0) scores (rooms 29 34 3) ≡ record { frames = replicate 29 5; kept = replicate 34 5; scores = replicate 3 (fin false 5 (pos 0)) }
-unfolding roomsOnE
+unfolding E Ieee.ofBits
 unchanged = refl
 
 -- ---- the listing
 
-unfoldable listedOnE : SearchBudget → ℕ → ListRooms → List ℕ
-unfolding little number each split sum all any count keep after rising numbersFrom distinct portOf wordOrder portOrder headerOf sound2 sound3 opened entryOf entries counts pathCounts paths lanePorts hub portsOf startOf families pathsOf zipLanes panelBy panelOf countOk names noTwice sound5a sound5b sound5 lengthOk sound4 letter soundPort soundRecord soundRecords place placeLt hubLt hubRising laneRising lanesRising samePort listed sound8 from ownRow ownRows sound6 sound7 portsChecked later checked panelE panelRefusal encode widthOk someOfEach inBounds budgetRefusal enter terminalTask memberTask portUnit hubUnit unitOf units run seeds seeded afterSeeding walkFrom walk nativesOf outset deepest mostSwitches tallyOf tiesTo lowered added keepOne keepAll sameList evaluated scoresRefusal walked evaluationRefusal keptOf searchedAs searchFrom search stackWords framesLeft mostPaths slotWidth keptLeft scoresLeftIn roomsRefusal listRoomsRefusal leftIn searchRefusal replyOf searchAnswer roomsAfter searchRooms listRefusal fitting written listReplyOf listAnswer listedIn listRooms bucketLo bucketHi Ieee.lt Ieee.le Ieee.sub Ieee.ofBits
+abbrev listedOnE : SearchBudget → ℕ → ListRooms → List ℕ
 listedOnE b skip rs =
-    let r = listAnswer panelE b skip rs in
+    let r = E .list b skip rs in
     r .refusal ∷ r .place ∷ r .status ∷ r .written ∷ r .words ∷ r .evaluations ∷ []
 
 abbrev listRoom : ℕ → ℕ → ℕ → ListRooms
@@ -150,12 +167,11 @@ listing : listedOnE (budget 100000 1000 32 8 0) 0 (listRoom 330 131 29)
     ∷ []
     ≡ (0 ∷ 0 ∷ 1 ∷ 3 ∷ 29 ∷ 3 ∷ []) ∷ (0 ∷ 0 ∷ 1 ∷ 2 ∷ 14 ∷ 3 ∷ []) ∷ (0 ∷ 0 ∷ 1 ∷ 1 ∷ 15 ∷ 3 ∷ []) ∷ (0 ∷ 0 ∷ 1 ∷ 0 ∷ 0 ∷ 3 ∷ []) ∷ (13 ∷ 0 ∷ 0 ∷ 0 ∷ 0 ∷ 0 ∷ [])
     ∷ (0 ∷ 0 ∷ 3 ∷ 0 ∷ 0 ∷ 3 ∷ []) ∷ []
-unfolding listedOnE
+unfolding E Ieee.ofBits
 listing = refl
 
-unfoldable listRoomsOnE : SearchBudget → ℕ → ListRooms → ListRooms
-unfolding little number each split sum all any count keep after rising numbersFrom distinct portOf wordOrder portOrder headerOf sound2 sound3 opened entryOf entries counts pathCounts paths lanePorts hub portsOf startOf families pathsOf zipLanes panelBy panelOf countOk names noTwice sound5a sound5b sound5 lengthOk sound4 letter soundPort soundRecord soundRecords place placeLt hubLt hubRising laneRising lanesRising samePort listed sound8 from ownRow ownRows sound6 sound7 portsChecked later checked panelE panelRefusal encode widthOk someOfEach inBounds budgetRefusal enter terminalTask memberTask portUnit hubUnit unitOf units run seeds seeded afterSeeding walkFrom walk nativesOf outset deepest mostSwitches tallyOf tiesTo lowered added keepOne keepAll sameList evaluated scoresRefusal walked evaluationRefusal keptOf searchedAs searchFrom search stackWords framesLeft mostPaths slotWidth keptLeft scoresLeftIn roomsRefusal listRoomsRefusal leftIn searchRefusal replyOf searchAnswer roomsAfter searchRooms listRefusal fitting written listReplyOf listAnswer listedIn listRooms bucketLo bucketHi Ieee.lt Ieee.le Ieee.sub Ieee.ofBits
-listRoomsOnE b skip rs = listRooms panelE b skip rs
+abbrev listRoomsOnE : SearchBudget → ℕ → ListRooms → ListRooms
+listRoomsOnE b skip rs = E .listRooms b skip rs
 
 listedWords : listRoomsOnE (budget 100000 1000 2 1 0) 1 (listRoom 31 12 8)
     ≡ record {
@@ -163,7 +179,7 @@ listedWords : listRoomsOnE (budget 100000 1000 2 1 0) 1 (listRoom 31 12 8)
       slot = replicate 11 0 ++ (5 ∷ []);
       out = 0 ∷ 1 ∷ 1 ∷ 0 ∷ 0 ∷ 10 ∷ 0 ∷ 5 ∷ [];
     }
-unfolding listRoomsOnE
+unfolding E Ieee.ofBits
 listedWords = refl
 
 -- ---- the unbudgeted walk of panel E: 21 units (one of them seeding), 3 evaluations, 3 frames at most
@@ -172,11 +188,10 @@ abbrev phaseWords : Phase → List ℕ
 phaseWords (going w) = 0 ∷ w .work ∷ w .evaluations ∷ length (w .stack) ∷ []
 phaseWords (ended e w) = 1 ∷ w .work ∷ w .evaluations ∷ length (w .stack) ∷ []
 
-unfoldable freeOnE : ℕ → List ℕ
-unfolding little number each split sum all any count keep after rising numbersFrom distinct portOf wordOrder portOrder headerOf sound2 sound3 opened entryOf entries counts pathCounts paths lanePorts hub portsOf startOf families pathsOf zipLanes panelBy panelOf countOk names noTwice sound5a sound5b sound5 lengthOk sound4 letter soundPort soundRecord soundRecords place placeLt hubLt hubRising laneRising lanesRising samePort listed sound8 from ownRow ownRows sound6 sound7 portsChecked later checked panelE panelRefusal encode widthOk someOfEach inBounds budgetRefusal enter terminalTask memberTask portUnit hubUnit unitOf units run seeds seeded afterSeeding walkFrom walk nativesOf outset deepest mostSwitches tallyOf tiesTo lowered added keepOne keepAll sameList evaluated scoresRefusal walked evaluationRefusal keptOf searchedAs searchFrom search stackWords framesLeft mostPaths slotWidth keptLeft scoresLeftIn roomsRefusal listRoomsRefusal leftIn searchRefusal replyOf searchAnswer roomsAfter searchRooms listRefusal fitting written listReplyOf listAnswer listedIn listRooms bucketLo bucketHi Ieee.lt Ieee.le Ieee.sub Ieee.ofBits
-freeOnE n = deepest (panelOf panelE) n (outset (panelOf panelE)) ∷ phaseWords (units (panelOf panelE) unlimited n (outset (panelOf panelE)))
+abbrev freeOnE : ℕ → List ℕ
+freeOnE n = E .deepest n ∷ phaseWords (E .units n)
 
 unbudgeted : freeOnE 19 ∷ freeOnE 20 ∷ freeOnE 0xffff_ffff_ffff_ffff ∷ []
     ≡ (3 ∷ 0 ∷ 20 ∷ 3 ∷ 1 ∷ []) ∷ (3 ∷ 1 ∷ 21 ∷ 3 ∷ 0 ∷ []) ∷ (3 ∷ 1 ∷ 21 ∷ 3 ∷ 0 ∷ []) ∷ []
-unfolding freeOnE
+unfolding E Ieee.ofBits
 unbudgeted = refl
