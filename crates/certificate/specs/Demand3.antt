@@ -65,9 +65,9 @@ TiedAreAll =
 -- The listing makes the search's evaluations, in its order and under its numbers.
 abbrev pub ListsTheSame : Type 0
 ListsTheSame =
-    (s : List ℕ) (b : SearchBudget) (xs : List Float) (rooms : Rooms) (skip : ℕ) (lent : ListRooms)
-    → searchAnswer s b xs rooms .refusal ≡ 0 → listAnswer s b skip lent .refusal ≡ 0
-    → listAnswer s b skip lent .evaluations ≡ searchAnswer s b xs rooms .evaluations
+    (s : List ℕ) (b : SearchBudget) (xs : List Float) (rooms : Rooms) (from : ℕ) (lent : ListRooms)
+    → searchAnswer s b xs rooms .refusal ≡ 0 → listAnswer s b from lent .refusal ≡ 0
+    → listAnswer s b from lent .evaluations ≡ searchAnswer s b xs rooms .evaluations
 
 -- All of it.
 pub record Demand3 : Type 0 where

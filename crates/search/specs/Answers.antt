@@ -128,7 +128,7 @@ fitting room (ws ∷ l) = pick (leb (length ws) room) (ws ∷ fitting (room - le
 
 -- "with numbers from + 1 on"
 unfoldable pub written : ℕ → ℕ → List Assignment → List (List ℕ)
-written skip room out = fitting room (map encode (drop skip out))
+written from room out = fitting room (map encode (drop from out))
 
 abbrev pub refusedList : Refusal → ListReply
 refusedList r = record { refusal = r .number; place = r .place; status = 0; written = 0; words = 0; evaluations = 0 }
@@ -147,19 +147,19 @@ listReplyOf r l =
 
 -- the panel's bytes, the budget, how many to skip, the rooms at entry
 unfoldable pub listAnswer : List ℕ → SearchBudget → ℕ → ListRooms → ListReply
-listAnswer s b skip rooms =
+listAnswer s b from rooms =
     pick (eqb (listRefusal s b rooms .number) 0)
-    (listReplyOf (walk (panelOf s) b) (written skip (length (rooms .out)) (walk (panelOf s) b .walk .out)))
+    (listReplyOf (walk (panelOf s) b) (written from (length (rooms .out)) (walk (panelOf s) b .walk .out)))
     (refusedList (listRefusal s b rooms))
 
 -- "The rest of out stays"; the slot "ends zero"
 unfoldable pub listedIn : Panel → SearchBudget → ℕ → ℕ → Walked → ListRooms → ListRooms
-listedIn p b number skip r rooms =
+listedIn p b number from r rooms =
     record {
       frames = leftIn number (framesLeft b (r .ending) (r .walk .stack)) [] (rooms .frames);
       slot = leftIn number (replicate (slotWidth p b) 0) [] (rooms .slot);
-      out = leftIn number (flat (written skip (length (rooms .out)) (r .walk .out))) [] (rooms .out);
+      out = leftIn number (flat (written from (length (rooms .out)) (r .walk .out))) [] (rooms .out);
     }
 
 unfoldable pub listRooms : List ℕ → SearchBudget → ℕ → ListRooms → ListRooms
-listRooms s b skip rooms = listedIn (panelOf s) b (listRefusal s b rooms .number) skip (walk (panelOf s) b) rooms
+listRooms s b from rooms = listedIn (panelOf s) b (listRefusal s b rooms .number) from (walk (panelOf s) b) rooms

@@ -6,4 +6,6 @@ pub mod Keep
 pub mod Search
 pub mod Rooms
 pub mod Answers
+pub mod Sheet
+pub mod Job
 pub mod Try

@@ -1,5 +1,5 @@
 -- The walk, the search and the listing computed on panel E.
-use Prim.Native.Nat.{ℕ, zero, suc, _+_, _*_, _-_, _/_, min, max}
+use Prim.Native.Nat.{ℕ, zero, suc, _+_, _*_, _-_, _/_, _%_, min, max}
 use mathlib.Core.Path.{_≡_, refl}
 use mathlib.Core.Bool.{Bool, true, false}
 use mathlib.Core.List.{List, [], _∷_, _++_, map}
@@ -33,6 +33,8 @@ use Rattle.search.specs.Counters.{mostSwitches, tallyOf}
 use Rattle.search.specs.Keep.{tiesTo, lowered, added, keepOne, keepAll, sameList, evaluated, scoresRefusal}
 use Rattle.search.specs.Search.{walked, evaluationRefusal, keptOf, searchedAs, searchFrom, search}
 use Rattle.search.specs.Rooms.{stackWords, framesLeft, mostPaths, slotWidth, keptLeft, scoresLeftIn, roomsRefusal, listRoomsRefusal, leftIn}
+use Rattle.search.specs.Sheet.{foreign, digits, routeLines, routesLines, sheet, refusalLine}
+use Rattle.search.specs.Job.{jobOk, budgetIn, scoresIn, programRooms, jobRefusal, printed}
 use Rattle.search.specs.Answers.{Rooms, ListRooms, searchRefusal, replyOf, searchAnswer, roomsAfter, searchRooms, listRefusal, fitting, written, listReplyOf, listAnswer, listedIn, listRooms}
 
 -- a double by its bits
@@ -51,7 +53,15 @@ shown r =
     r .refusal ∷ r .place ∷ r .status ∷ r .work ∷ r .evaluations ∷ r .natives ∷ r .donors ∷ r .«non_native» ∷ r .mixed ∷ r .«mixed_identity»
     ∷ r .switches ∷ r .families ∷ r .optima ∷ r .discarded ∷ r .frames ∷ r .pending ∷ []
 
--- the public calls, and the unbudgeted walk, on panel E
+-- a number below 65,536 as eight bytes
+abbrev word : ℕ → List ℕ
+word n = n % 256 ∷ n / 256 ∷ 0 ∷ 0 ∷ 0 ∷ 0 ∷ 0 ∷ 0 ∷ []
+
+-- a double's two upper bytes, with zeros below
+abbrev bits : ℕ → ℕ → List ℕ
+bits low high = 0 ∷ 0 ∷ 0 ∷ 0 ∷ 0 ∷ 0 ∷ low ∷ high ∷ []
+
+-- the public calls, the unbudgeted walk, and the program's jobs of three scores, on panel E
 record Calls : Type 0 where
   answer : SearchBudget → List Float → Rooms → SearchReply
   rooms : SearchBudget → List Float → Rooms → Rooms
@@ -59,9 +69,10 @@ record Calls : Type 0 where
   listRooms : SearchBudget → ℕ → ListRooms → ListRooms
   units : ℕ → Phase
   deepest : ℕ → ℕ
+  print : List ℕ → List ℕ
 
 unfoldable E : Calls
-unfolding little number each split sum all any count keep after rising numbersFrom distinct portOf wordOrder portOrder headerOf sound2 sound3 opened entryOf entries counts pathCounts paths lanePorts hub portsOf startOf families pathsOf zipLanes panelBy panelOf countOk names noTwice sound5a sound5b sound5 lengthOk sound4 letter soundPort soundRecord soundRecords place placeLt hubLt hubRising laneRising lanesRising samePort listed sound8 from ownRow ownRows sound6 sound7 portsChecked later checked panelE panelRefusal encode widthOk someOfEach inBounds budgetRefusal enter terminalTask memberTask portUnit hubUnit unitOf units run seeds seeded afterSeeding walkFrom walk nativesOf outset deepest mostSwitches tallyOf tiesTo lowered added keepOne keepAll sameList evaluated scoresRefusal walked evaluationRefusal keptOf searchedAs searchFrom search stackWords framesLeft mostPaths slotWidth keptLeft scoresLeftIn roomsRefusal listRoomsRefusal leftIn searchRefusal replyOf searchAnswer roomsAfter searchRooms listRefusal fitting written listReplyOf listAnswer listedIn listRooms bucketLo bucketHi Ieee.lt Ieee.le Ieee.sub Ieee.ofBits
+unfolding little number each split sum all any count keep after rising numbersFrom distinct portOf wordOrder portOrder headerOf sound2 sound3 opened entryOf entries counts pathCounts paths lanePorts hub portsOf startOf families pathsOf zipLanes panelBy panelOf countOk names noTwice sound5a sound5b sound5 lengthOk sound4 letter soundPort soundRecord soundRecords place placeLt hubLt hubRising laneRising lanesRising samePort listed sound8 from ownRow ownRows sound6 sound7 portsChecked later checked panelE panelRefusal encode widthOk someOfEach inBounds budgetRefusal enter terminalTask memberTask portUnit hubUnit unitOf units run seeds seeded afterSeeding walkFrom walk nativesOf outset deepest mostSwitches tallyOf tiesTo lowered added keepOne keepAll sameList evaluated scoresRefusal walked evaluationRefusal keptOf searchedAs searchFrom search stackWords framesLeft mostPaths slotWidth keptLeft scoresLeftIn roomsRefusal listRoomsRefusal leftIn searchRefusal replyOf searchAnswer roomsAfter searchRooms listRefusal fitting written listReplyOf listAnswer listedIn listRooms bucketLo bucketHi Ieee.lt Ieee.le Ieee.sub Ieee.ofBits foreign digits routeLines routesLines sheet refusalLine jobOk budgetIn scoresIn programRooms jobRefusal printed
 E =
     record {
       answer = searchAnswer panelE;
@@ -70,15 +81,16 @@ E =
       listRooms = listRooms panelE;
       units = λ n. units (panelOf panelE) unlimited n (outset (panelOf panelE));
       deepest = λ n. deepest (panelOf panelE) n (outset (panelOf panelE));
+      print = λ rest. printed (word 296 ++ (word 0 ++ (word 3 ++ (panelE ++ rest))));
     }
 
 abbrev onE : SearchBudget → List ℕ → Rooms → List ℕ
 onE b xs rs = shown (E .answer b (map double xs) rs)
 
-sheet : onE (budget 100000 1000 32 8 0) (0x4014000000000000 ∷ 0x4014000000000000 ∷ 0x4010000000000000 ∷ []) (rooms 330 1310 9)
+answer : onE (budget 100000 1000 32 8 0) (0x4014000000000000 ∷ 0x4014000000000000 ∷ 0x4010000000000000 ∷ []) (rooms 330 1310 9)
     ≡ 0 ∷ 0 ∷ 1 ∷ 21 ∷ 3 ∷ 1 ∷ 6 ∷ 1 ∷ 1 ∷ 1 ∷ 2 ∷ 1 ∷ 1 ∷ 0 ∷ 0 ∷ 0 ∷ []
 unfolding E Ieee.ofBits
-sheet = refl
+answer = refl
 
 -- scores 5, 5, 4
 abbrev scores : List ℕ
@@ -195,3 +207,16 @@ unbudgeted : freeOnE 19 ∷ freeOnE 20 ∷ freeOnE 0xffff_ffff_ffff_ffff ∷ []
     ≡ (3 ∷ 0 ∷ 20 ∷ 3 ∷ 1 ∷ []) ∷ (3 ∷ 1 ∷ 21 ∷ 3 ∷ 0 ∷ []) ∷ (3 ∷ 1 ∷ 21 ∷ 3 ∷ 0 ∷ []) ∷ []
 unfolding E Ieee.ofBits
 unbudgeted = refl
+
+-- ---- the program: the sheet of 01 byte for byte; a job with a byte too many; a score that is a NaN
+
+printedSheet : E .print (bits 0x14 0x40 ++ (bits 0x14 0x40 ++ bits 0x10 0x40))
+    ≡ 115 ∷ 116 ∷ 97 ∷ 116 ∷ 117 ∷ 115 ∷ 32 ∷ 100 ∷ 111 ∷ 109 ∷ 97 ∷ 105 ∷ 110 ∷ 45 ∷ 101 ∷ 120 ∷ 104 ∷ 97 ∷ 117 ∷ 115 ∷ 116 ∷ 101 ∷ 100 ∷ 45 ∷ 111 ∷ 112 ∷ 116 ∷ 105 ∷ 109 ∷ 117 ∷ 109 ∷ 45 ∷ 97 ∷ 110 ∷ 100 ∷ 45 ∷ 99 ∷ 111 ∷ 114 ∷ 114 ∷ 101 ∷ 108 ∷ 97 ∷ 116 ∷ 101 ∷ 100 ∷ 45 ∷ 115 ∷ 117 ∷ 112 ∷ 112 ∷ 111 ∷ 114 ∷ 116 ∷ 45 ∷ 99 ∷ 101 ∷ 114 ∷ 116 ∷ 105 ∷ 102 ∷ 105 ∷ 101 ∷ 100 ∷ 10 ∷ 119 ∷ 111 ∷ 114 ∷ 107 ∷ 32 ∷ 50 ∷ 49 ∷ 10 ∷ 101 ∷ 118 ∷ 97 ∷ 108 ∷ 117 ∷ 97 ∷ 116 ∷ 105 ∷ 111 ∷ 110 ∷ 115 ∷ 32 ∷ 51 ∷ 10 ∷ 110 ∷ 97 ∷ 116 ∷ 105 ∷ 118 ∷ 101 ∷ 115 ∷ 32 ∷ 49 ∷ 10 ∷ 100 ∷ 111 ∷ 110 ∷ 111 ∷ 114 ∷ 115 ∷ 32 ∷ 54 ∷ 10 ∷ 110 ∷ 111 ∷ 110 ∷ 45 ∷ 110 ∷ 97 ∷ 116 ∷ 105 ∷ 118 ∷ 101 ∷ 32 ∷ 49 ∷ 10 ∷ 109 ∷ 105 ∷ 120 ∷ 101 ∷ 100 ∷ 32 ∷ 49 ∷ 10 ∷ 109 ∷ 105 ∷ 120 ∷ 101 ∷ 100 ∷ 45 ∷ 105 ∷ 100 ∷ 101 ∷ 110 ∷ 116 ∷ 105 ∷ 116 ∷ 121 ∷ 32 ∷ 49 ∷ 10 ∷ 115 ∷ 119 ∷ 105 ∷ 116 ∷ 99 ∷ 104 ∷ 101 ∷ 115 ∷ 32 ∷ 50 ∷ 10 ∷ 102 ∷ 97 ∷ 109 ∷ 105 ∷ 108 ∷ 105 ∷ 101 ∷ 115 ∷ 32 ∷ 49 ∷ 10 ∷ 111 ∷ 112 ∷ 116 ∷ 105 ∷ 109 ∷ 97 ∷ 32 ∷ 49 ∷ 10 ∷ 102 ∷ 111 ∷ 114 ∷ 101 ∷ 105 ∷ 103 ∷ 110 ∷ 32 ∷ 50 ∷ 10 ∷ 114 ∷ 111 ∷ 117 ∷ 116 ∷ 101 ∷ 32 ∷ 48 ∷ 32 ∷ 48 ∷ 32 ∷ 48 ∷ 32 ∷ 52 ∷ 32 ∷ 43 ∷ 10 ∷ 114 ∷ 111 ∷ 117 ∷ 116 ∷ 101 ∷ 32 ∷ 48 ∷ 32 ∷ 49 ∷ 32 ∷ 54 ∷ 32 ∷ 56 ∷ 32 ∷ 43 ∷ 10 ∷ 114 ∷ 111 ∷ 117 ∷ 116 ∷ 101 ∷ 32 ∷ 48 ∷ 32 ∷ 48 ∷ 32 ∷ 55 ∷ 32 ∷ 49 ∷ 48 ∷ 32 ∷ 43 ∷ 10 ∷ []
+unfolding E
+printedSheet = refl
+
+-- "refused 16 0", "refused 15 2"
+printedRefusals : E .print (bits 0x14 0x40 ++ (bits 0x14 0x40 ++ (0 ∷ bits 0x10 0x40))) ∷ E .print (bits 0x14 0x40 ++ (bits 0xf8 0x7f ++ bits 0x10 0x40)) ∷ []
+    ≡ (114 ∷ 101 ∷ 102 ∷ 117 ∷ 115 ∷ 101 ∷ 100 ∷ 32 ∷ 49 ∷ 54 ∷ 32 ∷ 48 ∷ 10 ∷ []) ∷ (114 ∷ 101 ∷ 102 ∷ 117 ∷ 115 ∷ 101 ∷ 100 ∷ 32 ∷ 49 ∷ 53 ∷ 32 ∷ 50 ∷ 10 ∷ []) ∷ []
+unfolding E
+printedRefusals = refl
