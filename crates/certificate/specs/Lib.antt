@@ -1,0 +1,3 @@
+pub mod Terms
+pub mod Demand3
+pub mod Examples

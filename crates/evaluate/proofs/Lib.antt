@@ -1,0 +1,4 @@
+pub mod RoundTrips
+pub mod Bases
+pub mod NormalForm
+pub mod Native

@@ -1,0 +1,8 @@
+pub mod Properties
+pub mod Refusals
+pub mod Segments
+pub mod Ports
+pub mod Words
+pub mod Legal
+pub mod Check
+pub mod Try

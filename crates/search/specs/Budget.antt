@@ -1,0 +1,36 @@
+-- The budgets and their bounds: refusals 11 and 12 (01, "Refusal numbers", "Panel image").
+use Prim.Native.Nat.{ℕ}
+use mathlib.Core.Bool.{Bool, true, false, not, _&&_}
+use lib.Dec.{leb, ltb}
+use lib.IntN.{pos}
+use lib.Ieee as Ieee
+use lib.Ieee.{Float, fin}
+use lib.Ieee.Scale.{finite}
+use Rattle.evaluate.specs.Refusals.{unless}
+use Rattle.search.specs.declared.SearchBudget.{SearchBudget}
+
+-- Bounds: "max_frontier and max_optima to 1,024"
+abbrev pub mostFrontier : ℕ
+mostFrontier = 1024
+
+abbrev pub mostOptima : ℕ
+mostOptima = 1024
+
+-- 0.0
+abbrev pub zeroScore : Float
+zeroScore = fin false 0 (pos 0)
+
+-- "the tie width is not finite or below 0 (-0.0 passes)"
+unfoldable pub widthOk : Float → Bool
+widthOk w = finite w && Ieee.le zeroScore w
+
+-- 11: "a whole budget is 0", or the tie width
+unfoldable pub someOfEach : SearchBudget → Bool
+someOfEach b = ltb 0 (b .«max_work») && ltb 0 (b .«max_evaluations») && ltb 0 (b .«max_frontier») && ltb 0 (b .«max_optima») && widthOk (b .«tie_width»)
+
+-- 12: "max_frontier or max_optima over its bound"
+unfoldable pub inBounds : SearchBudget → Bool
+inBounds b = leb (b .«max_frontier») mostFrontier && leb (b .«max_optima») mostOptima
+
+unfoldable pub budgetRefusal : SearchBudget → ℕ
+budgetRefusal b = unless (someOfEach b) 11 (unless (inBounds b) 12 0)

@@ -1,0 +1,11 @@
+pub mod Budget
+pub mod Walk
+pub mod Run
+pub mod Counters
+pub mod Keep
+pub mod Search
+pub mod Rooms
+pub mod Answers
+pub mod Sheet
+pub mod Job
+pub mod Try
