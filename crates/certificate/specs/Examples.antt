@@ -9,20 +9,21 @@ use lib.Ieee as Ieee
 use lib.Ieee.{Float, nan, inf, fin, binary64}
 use Rattle.ground.specs.Lists.{each, split, sum, all, any, count, keep, after, rising, numbersFrom, distinct}
 use Rattle.storage.specs.Bytes.{little, number}
-use Rattle.storage.specs.Records.{portOf, padded, cutAs, cutOf}
+use Rattle.storage.specs.Records.{portOf, padded, cutAs, cutOf, standsAt}
 use Rattle.storage.specs.declared.Port.{Port}
-use Rattle.storage.specs.Orders.{wordOrder, portOrder}
+use Rattle.storage.specs.Orders.{wordOrder, portOrder, bucketOf, wordBelow, wordUpTo}
 use Rattle.image.specs.Header.{headerOf, sound2, sound3, opened}
 use Rattle.image.specs.Image.{entryOf, entries, counts, pathCounts, paths, lanePorts, hub, portsOf, startOf, families, pathsOf}
 use Rattle.image.specs.Panel.{Panel, PanelLane, zipLanes, panelBy, panelOf}
 use Rattle.families.specs.Families.{countOk, names, noTwice, sound5a, sound5b, sound5}
-use Rattle.panel.specs.Panel.{lengthOk, sound4, letter, soundPort, soundRecord, soundRecords, place, placeLt, hubLt, hubRising, laneRising, lanesRising, samePort, listed, sound8, from, ownRow, ownRows, sound6, sound7}
+use Rattle.panel.specs.Refusals.{lengthOk, sound4, letter, soundPlace, soundRecord, soundRecords, hubRising, laneRising, lanesRising, listed, sound8, from, ownRow, ownRows, sound6, sound7}
+use Rattle.storage.specs.Orders.{placeOf, placeLt, recordLt, samePort}
 use Rattle.graph.specs.Check.{portsChecked, later, checked}
 use Rattle.evaluate.specs.declared.Segment.{Segment}
 use Rattle.graph.specs.PanelE.{panelE}
-use Rattle.evaluate.specs.Refusals.{panelRefusal}
+use Rattle.graph.specs.Check.{panelRefusal}
 use Rattle.evaluate.specs.Segments.{Route, joining, normalize, overlap}
-use Rattle.evaluate.specs.Ports.{portsAt, bucketLo, bucketHi}
+use Rattle.graph.specs.Lookups.{portsAt, bucketLo, bucketHi}
 use Rattle.evaluate.specs.Words.{encode}
 use Rattle.search.specs.declared.SearchBudget.{SearchBudget}
 use Rattle.search.specs.declared.SearchReply.{SearchReply}
@@ -85,7 +86,7 @@ pub record Answers : Type 0 where
   pub kept : SearchBudget → Kept Evaluated
 
 unfoldable pub on : List ℕ → Answers
-unfolding little number each split sum all any count keep after rising numbersFrom distinct portOf wordOrder portOrder headerOf sound2 sound3 opened entryOf entries counts pathCounts paths lanePorts hub portsOf startOf families pathsOf zipLanes panelBy panelOf countOk names noTwice sound5a sound5b sound5 lengthOk sound4 letter soundPort soundRecord soundRecords place placeLt hubLt hubRising laneRising lanesRising samePort listed sound8 from ownRow ownRows sound6 sound7 portsChecked later checked panelE panelRefusal joining portsAt encode widthOk someOfEach inBounds budgetRefusal enter terminalTask memberTask portUnit hubUnit unitOf units run seeds seeded afterSeeding walkFrom walk mostSwitches tallyOf tiesTo lowered added keepOne keepAll sameList evaluated scoresRefusal walked evaluationRefusal keptOf searchedAs searchFrom search stackWords framesLeft mostPaths slotWidth keptLeft scoresLeftIn roomsRefusal leftIn searchRefusal replyOf searchAnswer roomsAfter searchRooms bucketLo bucketHi Ieee.lt Ieee.le Ieee.sub Ieee.ofBits
+unfolding little number each split sum all any count keep after rising numbersFrom distinct portOf wordOrder portOrder headerOf sound2 sound3 opened entryOf entries counts pathCounts paths lanePorts hub portsOf startOf families pathsOf zipLanes panelBy panelOf countOk names noTwice sound5a sound5b sound5 lengthOk sound4 letter soundPlace soundRecord soundRecords placeOf placeLt recordLt hubRising laneRising lanesRising samePort listed sound8 from ownRow ownRows sound6 sound7 portsChecked later checked panelE panelRefusal joining portsAt standsAt encode widthOk someOfEach inBounds budgetRefusal enter terminalTask memberTask portUnit hubUnit unitOf units run seeds seeded afterSeeding walkFrom walk mostSwitches tallyOf tiesTo lowered added keepOne keepAll sameList evaluated scoresRefusal walked evaluationRefusal keptOf searchedAs searchFrom search stackWords framesLeft mostPaths slotWidth keptLeft scoresLeftIn roomsRefusal leftIn searchRefusal replyOf searchAnswer roomsAfter searchRooms bucketOf wordBelow wordUpTo Ieee.lt Ieee.le Ieee.sub Ieee.ofBits
 on s =
     record {
       bucket = λ w. bucketLo (panelOf s) w ∷ bucketHi (panelOf s) w ∷ [];
@@ -160,7 +161,7 @@ pub record Table : Type 0 where
   pub p11 : outcome panelE2 (budget 1 1 32 8 0) ≡ 0 ∷ 4 ∷ 1 ∷ 1 ∷ 0 ∷ 0 ∷ 0 ∷ 0 ∷ []
 
 pub table : Table
-unfolding on keep portsAt joining encode panelE panelE2 Ieee.ofBits
+unfolding on keep portsAt standsAt joining encode panelE panelE2 Ieee.ofBits
 table =
     record {
       p1 = refl;

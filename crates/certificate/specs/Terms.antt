@@ -10,7 +10,7 @@ use lib.Ieee.{Float}
 use lib.Ieee.Scale.{finite}
 use Rattle.image.specs.Panel.{Panel, panelOf}
 use Rattle.evaluate.specs.Properties.{Pairs, Neighbours, Matched}
-use Rattle.evaluate.specs.Refusals.{panelRefusal}
+use Rattle.graph.specs.Check.{panelRefusal}
 use Rattle.evaluate.specs.Segments.{Assignment}
 use Rattle.evaluate.specs.Words.{got, decode}
 use Rattle.evaluate.specs.Legal.{Legal}

@@ -16,16 +16,18 @@ use Rattle.image.specs.declared.Entry.{Entry}
 use Rattle.image.specs.declared.Opened.{Opened}
 use Rattle.image.specs.declared.Opened.the-variants.{Good, Refused}
 use Rattle.image.specs.Header.{headerOf, opened, orRefuse, sound1, sound2, sound3}
-use Rattle.image.specs.Image.{entries, counts, lanePorts, families, paths, pathCounts, noEntry, Framed}
+use Rattle.image.specs.Image.{entries, counts, lanePorts, families, paths, pathCounts, noEntry}
+use Rattle.image.specs.Inner.{Framed}
 use Rattle.image.specs.Panel.{Panel, PanelLane, panelOf, panelBy, zipLanes, noLane, laneAt, pathsAt}
 use Rattle.image.proofs.Laws.{entries-length, rows-length, families-length}
 use Rattle.families.specs.Families.{names, noTwice, sound5a, sound5b, sound5}
-use Rattle.panel.specs.Panel.{lengthOk, sound4, sound6, sound7, sound8, Accepted}
+use Rattle.panel.specs.Refusals.{lengthOk, sound4, sound6, sound7, sound8}
+use Rattle.panel.specs.Inner.{Accepted}
 use Rattle.graph.specs.Check.{portsChecked, later, afterOpen, checked}
 use Rattle.graph.proofs.Laws.{accepted-of}
 use Rattle.evaluate.specs.declared.Segment.{Segment}
 use Rattle.evaluate.specs.Properties.{Each, Pairs, Matched}
-use Rattle.evaluate.specs.Refusals.{numberOf, panelRefusal}
+use Rattle.graph.specs.Check.{refusalOf, panelRefusal}
 use Rattle.evaluate.specs.Segments.{Route, flat, whole, nativeOf, Share}
 use Rattle.evaluate.specs.Legal.{LegalRoute, Apart, Legal}
 
@@ -193,7 +195,7 @@ pub taken : (s : List ℕ) → panelRefusal s ≡ 0 → Taken s
 unfolding panelRefusal
 taken s e = go (checked s) refl e
   where
-    go : (o : Opened) → checked s ≡ o → numberOf o ≡ 0 → Taken s
+    go : (o : Opened) → checked s ≡ o → refusalOf o ≡ 0 → Taken s
     go (Good h) q z = record { header = h; accepted = accepted-of s h q }
     go (Refused n) q z = absurd (checked-none s (q ∙ ap Refused z))
 

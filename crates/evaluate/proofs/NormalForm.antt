@@ -14,7 +14,8 @@ use Rattle.ground.proofs.ListLaws.{both}
 use Rattle.image.specs.Panel.{Panel, PanelLane, laneAt}
 use Rattle.evaluate.specs.declared.Segment.{Segment}
 use Rattle.evaluate.specs.Properties.{Each, Neighbours, First}
-use Rattle.evaluate.specs.Segments.{Route, entry, exit, sameTurn, joinable, joined, joining, normalize, Unjoined, Holds, SoundSpan}
+use Rattle.evaluate.specs.Segments.{Route, entry, exit, joinable, joined, joining, normalize, Unjoined, Holds, SoundSpan}
+use Rattle.storage.specs.Records.{sameTurn}
 
 -- no span is empty
 abbrev pub Filled : Route → Type 0

@@ -10,9 +10,11 @@ use Rattle.image.specs.Panel.{Panel, PanelLane, panelOf, laneAt, pathsAt}
 use Rattle.evaluate.specs.declared.Segment.{Segment}
 use Rattle.evaluate.specs.declared.Refusal.{Refusal}
 use Rattle.evaluate.specs.declared.AssignmentReply.{AssignmentReply}
-use Rattle.evaluate.specs.Refusals.{noRefusal, unless, orElse, at, panelRefusal}
+use Rattle.evaluate.specs.Refusals.{noRefusal, unless, orElse, at}
+use Rattle.graph.specs.Check.{panelRefusal}
 use Rattle.evaluate.specs.Segments.{Route, Assignment, entry, exit, flat, soundSpan, normalize, normalForm, apart}
-use Rattle.evaluate.specs.Ports.{portsAt, sameWord}
+use Rattle.graph.specs.Lookups.{portsAt}
+use Rattle.storage.specs.Orders.{sameWord}
 use Rattle.evaluate.specs.Words.{Read, malformed, got, encode, decode}
 
 -- Bounds: "an assignment to 65,536 words"

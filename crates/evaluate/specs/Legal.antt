@@ -9,7 +9,7 @@ use Rattle.image.specs.Panel.{Panel, PanelLane, laneAt, pathsAt}
 use Rattle.evaluate.specs.declared.Segment.{Segment}
 use Rattle.evaluate.specs.Properties.{Each, Pairs, Neighbours, First, Last, Matched}
 use Rattle.evaluate.specs.Segments.{Route, Assignment, entry, exit, SoundSpan, Unjoined, Share, flat}
-use Rattle.evaluate.specs.Ports.{PortAt}
+use Rattle.graph.specs.Lookups.{PortAt}
 
 -- "each route enters its target lane forward at 0"
 pub record Enters (target : ℕ) (s : Segment) : Type 0 where

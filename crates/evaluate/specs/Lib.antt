@@ -1,7 +1,6 @@
 pub mod Properties
 pub mod Refusals
 pub mod Segments
-pub mod Ports
 pub mod Words
 pub mod Legal
 pub mod Check

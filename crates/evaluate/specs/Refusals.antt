@@ -1,11 +1,6 @@
 -- Refusals with their places, and their order (01, "Refusal numbers"). Number 0: nothing is refused.
 use Prim.Native.Nat.{ℕ, zero, suc}
 use mathlib.Core.Bool.{Bool, true, false}
-use mathlib.Core.List.{List}
-use Rattle.image.specs.declared.Header.{Header}
-use Rattle.image.specs.declared.Opened.{Opened}
-use Rattle.image.specs.declared.Opened.the-variants.{Good, Refused}
-use Rattle.graph.specs.Check.{checked}
 use Rattle.evaluate.specs.declared.Refusal.{Refusal}
 
 abbrev pub noRefusal : Refusal
@@ -25,11 +20,3 @@ orElse (suc n) later = suc n
 abbrev pub at : ℕ → ℕ → Refusal → Refusal
 at zero place later = later
 at (suc n) place later = record { number = suc n; place = place }
-
--- 1 to 8 as a number
-abbrev pub numberOf : Opened → ℕ
-numberOf (Good h) = 0
-numberOf (Refused n) = n
-
-unfoldable pub panelRefusal : List ℕ → ℕ
-panelRefusal s = numberOf (checked s)

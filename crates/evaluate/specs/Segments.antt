@@ -6,6 +6,7 @@ use mathlib.Core.List.{List, [], _∷_, _++_, map}
 use lib.Dec.{leb, ltb, eqb}
 use lib.ListN.{length}
 use Rattle.ground.specs.Lists.{pick, all}
+use Rattle.storage.specs.Records.{sameTurn}
 use Rattle.image.specs.Panel.{Panel, PanelLane, laneAt, pathsAt}
 use Rattle.evaluate.specs.declared.Segment.{Segment}
 
@@ -24,13 +25,6 @@ entry s = pick (s .reverse) (s .end) (s .start)
 
 abbrev pub exit : Segment → ℕ
 exit s = pick (s .reverse) (s .start) (s .end)
-
--- one orientation
-abbrev pub sameTurn : Bool → Bool → Bool
-sameTurn true true = true
-sameTurn true false = false
-sameTurn false true = false
-sameTurn false false = true
 
 -- the lists one behind the other
 abbrev pub flat : {A : Type 0} → List (List A) → List A

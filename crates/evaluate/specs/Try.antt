@@ -7,21 +7,22 @@ use lib.Dec.{leb}
 use lib.ListN.{length, take, replicate}
 use Rattle.ground.specs.Lists.{each, split, sum, all, any, count, keep, after, rising, numbersFrom, distinct}
 use Rattle.storage.specs.Bytes.{little, number}
-use Rattle.storage.specs.Records.{portOf}
+use Rattle.storage.specs.Records.{portOf, standsAt}
 use Rattle.storage.specs.Orders.{wordOrder, portOrder}
 use Rattle.image.specs.Header.{headerOf, sound2, sound3, opened}
 use Rattle.image.specs.Image.{entryOf, entries, counts, pathCounts, paths, lanePorts, hub, portsOf, startOf, families, pathsOf}
 use Rattle.image.specs.Panel.{zipLanes, panelBy, panelOf}
 use Rattle.families.specs.Families.{countOk, names, noTwice, sound5a, sound5b, sound5}
-use Rattle.panel.specs.Panel.{lengthOk, sound4, letter, soundPort, soundRecord, soundRecords, place, placeLt, hubLt, hubRising, laneRising, lanesRising, samePort, listed, sound8, from, ownRow, ownRows, sound6, sound7}
+use Rattle.panel.specs.Refusals.{lengthOk, sound4, letter, soundPlace, soundRecord, soundRecords, hubRising, laneRising, lanesRising, listed, sound8, from, ownRow, ownRows, sound6, sound7}
+use Rattle.storage.specs.Orders.{placeOf, placeLt, recordLt, samePort}
 use Rattle.graph.specs.Check.{portsChecked, later, checked}
 use Rattle.graph.specs.PanelE.{panelE}
 use Rattle.evaluate.specs.declared.Segment.{Segment}
 use Rattle.evaluate.specs.declared.AssignmentReply.{AssignmentReply}
 use Rattle.evaluate.specs.declared.Refusal.{Refusal}
-use Rattle.evaluate.specs.Refusals.{panelRefusal}
+use Rattle.graph.specs.Check.{panelRefusal}
 use Rattle.evaluate.specs.Segments.{Route, joining, normalize, overlap, apart}
-use Rattle.evaluate.specs.Ports.{portsAt, bucketLo, bucketHi}
+use Rattle.graph.specs.Lookups.{portsAt, bucketLo, bucketHi}
 use Rattle.evaluate.specs.Words.{encode, readSegments, readRoutes, readAssignment, decode}
 use Rattle.evaluate.specs.Check.{mostWords, leaves, jointRefusal, jointsRefusal, normalRefusal, routeRefusal, routesRefusal, overlapRefusal, assignmentRefusal, wordsRefusal, checkRefusal, normalWords, checkAnswer, checkOut}
 
@@ -36,7 +37,7 @@ record Calls : Type 0 where
   both : List ℕ → ℕ → Refusal
 
 unfoldable E : Calls
-unfolding little number each split sum all any count keep after rising numbersFrom distinct portOf wordOrder portOrder headerOf sound2 sound3 opened entryOf entries counts pathCounts paths lanePorts hub portsOf startOf families pathsOf zipLanes panelBy panelOf countOk names noTwice sound5a sound5b sound5 lengthOk sound4 letter soundPort soundRecord soundRecords place placeLt hubLt hubRising laneRising lanesRising samePort listed sound8 from ownRow ownRows sound6 sound7 portsChecked later checked panelE panelRefusal joining apart portsAt encode readSegments readRoutes readAssignment decode leaves jointRefusal jointsRefusal normalRefusal routeRefusal routesRefusal overlapRefusal assignmentRefusal wordsRefusal checkRefusal normalWords checkAnswer checkOut
+unfolding little number each split sum all any count keep after rising numbersFrom distinct portOf wordOrder portOrder headerOf sound2 sound3 opened entryOf entries counts pathCounts paths lanePorts hub portsOf startOf families pathsOf zipLanes panelBy panelOf countOk names noTwice sound5a sound5b sound5 lengthOk sound4 letter soundPlace soundRecord soundRecords placeOf placeLt recordLt hubRising laneRising lanesRising samePort listed sound8 from ownRow ownRows sound6 sound7 portsChecked later checked panelE panelRefusal joining apart portsAt standsAt encode readSegments readRoutes readAssignment decode leaves jointRefusal jointsRefusal normalRefusal routeRefusal routesRefusal overlapRefusal assignmentRefusal wordsRefusal checkRefusal normalWords checkAnswer checkOut
 E =
     let p = panelOf panelE in
     record {

@@ -1,11 +1,12 @@
 -- The port at a cut and the hub bucket (01, "Ports and buckets"; refusals 9 and 10).
 use Prim.Native.Nat.{ℕ, _<_}
 use mathlib.Core.Bool.{Bool, true, false}
-use mathlib.Core.List.{List, [], _∷_}
+use mathlib.Core.Path.{_≡_}
+use mathlib.Core.List.{List, [], _∷_, List·Memᴰ}
 use lib.Dec.{ltb, eqb}
 use lib.ListN.{length}
 use Rattle.ground.specs.Lists.{pick, keep}
-use Rattle.storage.specs.Records.{noPort, padded, standsAt}
+use Rattle.storage.specs.Records.{cutOf, noPort, padded, standsAt}
 use Rattle.storage.specs.Orders.{bucketOf}
 use Rattle.storage.specs.declared.Port.{Port}
 use Rattle.storage.specs.declared.Members.{Members}
@@ -20,7 +21,13 @@ use Rattle.graph.specs.declared.PortAnswer.{PortAnswer}
 use Rattle.graph.specs.declared.BucketAnswer.{BucketAnswer}
 use Rattle.graph.specs.declared.BucketAnswer.the-variants.{BadPanel, BadWord, Bucket}
 
--- the records of a lane with this cut and orientation; in an accepted panel there is at most one
+-- "the record of that lane with this cut and orientation"
+pub record PortAt (p : Panel) (lane cut : ℕ) (reverse : Bool) (q : Port) : Type 0 where
+  pub among : List·Memᴰ q (laneAt p lane .ports)
+  pub cutIs : cutOf q (p .k) ≡ cut
+  pub turnIs : q .reverse ≡ reverse
+
+-- the same as a list: in an accepted panel one record or none
 unfoldable pub portsAt : Panel → ℕ → ℕ → Bool → List Port
 portsAt p lane cut reverse = keep (standsAt (p .k) cut reverse) (laneAt p lane .ports)
 
@@ -51,6 +58,13 @@ portRefusal (Unsound n) = n
 portRefusal NoLane = 9
 portRefusal NoPort = 0
 portRefusal Here = 0
+
+-- "lo counts the global records with a lower word, hi those with a lower or equal one": of a padded word
+abbrev pub bucketLo : Panel → List ℕ → ℕ
+bucketLo p w = bucketOf w (p .hub) .lo
+
+abbrev pub bucketHi : Panel → List ℕ → ℕ
+bucketHi p w = bucketOf w (p .hub) .hi
 
 -- 10: a word that has not k bytes
 abbrev pub bucketIn : Header → Panel → List ℕ → BucketAnswer

@@ -8,7 +8,8 @@ use lib.Ieee.{Float}
 use Rattle.ground.specs.Lists.{pick}
 use Rattle.image.specs.Panel.{Panel, panelOf}
 use Rattle.evaluate.specs.declared.Refusal.{Refusal}
-use Rattle.evaluate.specs.Refusals.{noRefusal, at, panelRefusal}
+use Rattle.evaluate.specs.Refusals.{noRefusal, at}
+use Rattle.graph.specs.Check.{panelRefusal}
 use Rattle.evaluate.specs.Segments.{Assignment, flat}
 use Rattle.evaluate.specs.Words.{bit, encode}
 use Rattle.evaluate.specs.Check.{over}

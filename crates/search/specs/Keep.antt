@@ -11,7 +11,8 @@ use Rattle.ground.specs.Lists.{pick, any, keep}
 use Rattle.evaluate.specs.declared.Segment.{Segment}
 use Rattle.evaluate.specs.declared.Refusal.{Refusal}
 use Rattle.evaluate.specs.Refusals.{noRefusal}
-use Rattle.evaluate.specs.Segments.{Route, Assignment, sameTurn}
+use Rattle.evaluate.specs.Segments.{Route, Assignment}
+use Rattle.storage.specs.Records.{sameTurn}
 
 -- ---- the rule, for any things with a score
 

@@ -9,8 +9,9 @@ use Rattle.storage.specs.Records.{cutAs, cutOf, noPort}
 use Rattle.storage.specs.declared.Port.{Port}
 use Rattle.image.specs.Panel.{Panel, PanelLane, laneAt, pathsAt}
 use Rattle.evaluate.specs.declared.Segment.{Segment}
-use Rattle.evaluate.specs.Segments.{Route, sameTurn, flat, clear}
-use Rattle.evaluate.specs.Ports.{bucketLo, bucketHi}
+use Rattle.evaluate.specs.Segments.{Route, flat, clear}
+use Rattle.storage.specs.Records.{sameTurn}
+use Rattle.graph.specs.Lookups.{bucketLo, bucketHi}
 
 -- ---- places and frames
 

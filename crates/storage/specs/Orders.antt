@@ -54,6 +54,10 @@ isGreater Less = false
 isGreater Equal = false
 isGreater Greater = true
 
+-- two words are one
+abbrev pub sameWord : List ℕ → List ℕ → Bool
+sameWord v w = isEqual (wordOrder v w)
+
 -- a record stands before another in the global list
 unfoldable pub recordLt : Port → Port → Bool
 recordLt a b = isLess (portOrder a b)
