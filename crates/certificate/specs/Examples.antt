@@ -1,28 +1,31 @@
 -- The proved examples P1 to P11 (01, "Proved examples"), in one table, on panel E's own bytes, with budgets and scores as doubles.
 use Prim.Native.Nat.{ℕ, zero, suc, _+_, _*_, _-_, _/_, min, max}
-use mathlib.Core.Path.{_≡_, refl}
-use mathlib.Core.Bool.{Bool, true, false}
+use native.Mathlib.Omega.{arith}
+use mathlib.Core.Path.{_≡_, refl, ap, _∙_}
+use mathlib.Core.Bool.{Bool, true, false, _&&_}
 use mathlib.Core.List.{List, [], _∷_, _++_, map}
+use lib.Dec.{eqb}
+use borrow.Author.Tests.{ne-eqb}
 use lib.ListN.{length, take, drop, set, replicate}
 use lib.IntN.{pos, negsuc}
 use lib.Ieee as Ieee
 use lib.Ieee.{Float, nan, inf, fin, binary64}
-use Rattle.ground.specs.Lists.{each, split, sum, all, any, count, keep, after, rising, numbersFrom, distinct}
+use Rattle.ground.specs.Lists.{pick, each, split, sum, all, any, count, keep, after, rising, numbersFrom, distinct}
 use Rattle.storage.specs.Bytes.{little, number}
 use Rattle.storage.specs.Records.{portOf, padded, cutAs, cutOf}
 use Rattle.storage.specs.declared.Port.{Port}
 use Rattle.storage.specs.Orders.{wordOrder, portOrder}
 use Rattle.image.specs.Header.{headerOf, sound2, sound3, opened}
 use Rattle.image.specs.Image.{entryOf, entries, counts, pathCounts, paths, lanePorts, hub, portsOf, startOf, families, pathsOf}
-use Rattle.image.specs.Panel.{Panel, PanelLane, zipLanes, panelBy, panelOf}
+use Rattle.image.specs.Panel.{Panel, PanelLane, laneAt, zipLanes, panelBy, panelOf}
 use Rattle.families.specs.Families.{countOk, names, noTwice, sound5a, sound5b, sound5}
 use Rattle.panel.specs.Panel.{lengthOk, sound4, letter, soundPort, soundRecord, soundRecords, place, placeLt, hubLt, hubRising, laneRising, lanesRising, samePort, listed, sound8, from, ownRow, ownRows, sound6, sound7}
 use Rattle.graph.specs.Check.{portsChecked, later, checked}
 use Rattle.evaluate.specs.declared.Segment.{Segment}
 use Rattle.graph.specs.PanelE.{panelE}
 use Rattle.evaluate.specs.Refusals.{panelRefusal}
-use Rattle.evaluate.specs.Segments.{Route, joining, normalize, overlap}
-use Rattle.evaluate.specs.Ports.{portsAt, bucketLo, bucketHi}
+use Rattle.evaluate.specs.Segments.{Route, sameTurn, joining, normalize, overlap}
+use Rattle.evaluate.specs.Ports.{standsAt, portsAt, bucketLo, bucketHi}
 use Rattle.evaluate.specs.Words.{encode}
 use Rattle.search.specs.declared.SearchBudget.{SearchBudget}
 use Rattle.search.specs.declared.SearchReply.{SearchReply}
@@ -121,17 +124,27 @@ nativeWords = 0 ∷ 1 ∷ 1 ∷ 0 ∷ 0 ∷ 10 ∷ 0 ∷ []
 abbrev pub mosaicWords : List ℕ
 mosaicWords = 0 ∷ 1 ∷ 3 ∷ 0 ∷ 0 ∷ 4 ∷ 0 ∷ 1 ∷ 6 ∷ 8 ∷ 0 ∷ 0 ∷ 7 ∷ 10 ∷ 0 ∷ []
 
--- a lane of length 20 with one forward port at anchor 0, k 5
-abbrev pub panel5 : Panel
-panel5 = record { k = 5; lanes = record { len = 20; identity = 0; ports = record { word = padded (replicate 5 65) 5; source = 0; anchor = 0; reverse = false } ∷ [] } ∷ []; families = []; hub = [] }
+-- a forward port of word length 5 has no cut below 2
+no-cut : (r : Bool) (a : ℕ) → (eqb (pick r (a + 3) (a + 2)) 1 && sameTurn r false) ≡ false
+no-cut true a = rw (ne-eqb (a + 3) 1 (omega arith))
+no-cut false a = rw (ne-eqb (a + 2) 1 (omega arith))
+
+none-at : (l : List Port) → keep (standsAt 5 1 false) l ≡ []
+unfolding keep
+none-at [] = refl
+none-at (q ∷ l) = rw (no-cut (q .reverse) (q .anchor)) (none-at l)
+
+no-port : (p : Panel) (lane : ℕ) → p .k ≡ 5 → portsAt p lane 1 false ≡ []
+unfolding portsAt
+no-port p lane e = ap (λ (k : ℕ). keep (standsAt k 1 false) (laneAt p lane .ports)) e ∙ none-at (laneAt p lane .ports)
 
 -- ---- the table
 
 pub record Table : Type 0 where
   -- P1 k 5, anchor 7: cuts 9 and 10
   pub p1 : cutAs 5 false 7 ∷ cutAs 5 true 7 ∷ [] ≡ 9 ∷ 10 ∷ []
-  -- P2 k 5, cut 1 forward: no port (and at cut 2 the one declared)
-  pub p2 : length (portsAt panel5 0 1 false) ∷ length (portsAt panel5 0 2 false) ∷ [] ≡ 0 ∷ 1 ∷ []
+  -- P2 k 5, cut 1 forward: no port, on any lane of any panel
+  pub p2 : (p : Panel) (lane : ℕ) → p .k ≡ 5 → portsAt p lane 1 false ≡ []
   -- P3 0-4, 4-8 fit; 0-5, 4-8 don't
   pub p3 : overlap (fwd 0 0 4) (fwd 0 4 8) ∷ overlap (fwd 0 0 5) (fwd 0 4 8) ∷ [] ≡ false ∷ true ∷ []
   -- P4 0-4+, 4-9+ becomes 0-9+; 4-9-, 0-4- becomes 0-9-
@@ -164,7 +177,7 @@ unfolding on keep portsAt joining encode panelE panelE2 Ieee.ofBits
 table =
     record {
       p1 = refl;
-      p2 = refl;
+      p2 = no-port;
       p3 = refl;
       p4 = refl;
       p5 = refl;
