@@ -7,7 +7,7 @@ use mathlib.Core.List.{List}
 use lib.Dec.{eqb}
 use lib.ListN.{length}
 use lib.Ieee.{Float}
-use borrow.Author.Tests.{eq-eqb, eqb-false}
+use borrow.Author.Tests.{eqb-true, eqb-false}
 use Rattle.ground.specs.Lists.{pick}
 use Rattle.image.specs.Panel.{panelOf}
 use Rattle.evaluate.specs.declared.Refusal.{Refusal}
@@ -17,7 +17,8 @@ use Rattle.search.specs.declared.ListReply.{ListReply}
 use Rattle.search.specs.Run.{Walk, Walked, walk}
 use Rattle.search.specs.Counters.{tallyOf}
 use Rattle.search.specs.Search.{search, searchFrom, searchedAs, walked}
-use Rattle.search.specs.Answers.{Rooms, ListRooms, searchRefusal, refusedSearch, replyOf, searchAnswer, listRefusal, refusedList, written, listReplyOf, listAnswer}
+use Rattle.search.specs.Rooms.{leftIn}
+use Rattle.search.specs.Answers.{Rooms, ListRooms, searchRefusal, refusedSearch, replyOf, searchAnswer, listRefusal, refusedList, written, listReplyOf, listAnswer, listedIn, listRooms}
 use Rattle.certificate.specs.Demand3.{ListsTheSame}
 
 -- an answer whose refusal is 0 is that of a search
@@ -47,6 +48,24 @@ listed s b from rooms = go (eqb (listRefusal s b rooms .number) 0) refl
     go true e h = refl
     go false e h = absurd (eqb-false (r .number) 0 e h)
 
+unrefused : (s : List ℕ) (b : SearchBudget) (from : ℕ) (rooms : ListRooms) → listAnswer s b from rooms .refusal ≡ 0 → listRefusal s b rooms .number ≡ 0
+unfolding listAnswer listReplyOf
+unrefused s b from rooms = go (eqb (listRefusal s b rooms .number) 0) refl
+  where
+    r : Refusal
+    r = listRefusal s b rooms
+
+    reply : ListReply
+    reply = listReplyOf (walk (panelOf s) b) (written from (length (rooms .out)) (walk (panelOf s) b .walk .out))
+
+    go : (c : Bool) → eqb (r .number) 0 ≡ c → pick c reply (refusedList r) .refusal ≡ 0 → r .number ≡ 0
+    go true e h = eqb-true (r .number) 0 e
+    go false e h = h
+
 pub lists-the-same : ListsTheSame
-unfolding replyOf search searchFrom searchedAs walked tallyOf walk
-lists-the-same s b xs rooms from lent h k = listed s b from lent k ∙ sym (ap (λ (r : SearchReply). r .evaluations) (searched s b xs rooms h))
+unfolding replyOf search searchFrom searchedAs walked tallyOf walk listRooms listedIn leftIn
+lists-the-same s b xs rooms from lent h k =
+    record {
+      many = listed s b from lent k ∙ sym (ap (λ (r : SearchReply). r .evaluations) (searched s b xs rooms h));
+      words = rw (unrefused s b from lent k);
+    }

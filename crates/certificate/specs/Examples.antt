@@ -29,13 +29,13 @@ use Rattle.evaluate.specs.Ports.{standsAt, portsAt, bucketLo, bucketHi}
 use Rattle.evaluate.specs.Words.{encode}
 use Rattle.search.specs.declared.SearchBudget.{SearchBudget}
 use Rattle.search.specs.declared.SearchReply.{SearchReply}
-use Rattle.search.specs.Budget.{widthOk, someOfEach, inBounds, budgetRefusal}
+use Rattle.search.specs.Budget.{widthOk, budgetOk, budgetInBounds, budgetRefusal}
 use Rattle.search.specs.Walk.{enter, terminalTask, memberTask, portUnit, hubUnit, unitOf}
 use Rattle.search.specs.Run.{units, run, seeds, seeded, afterSeeding, walkFrom, walk}
 use Rattle.search.specs.Counters.{mostSwitches, tallyOf}
 use Rattle.search.specs.Keep.{Kept, Evaluated, tiesTo, lowered, added, keepOne, keepAll, sameList, evaluated, scoresRefusal}
 use Rattle.search.specs.Search.{State, Searched, walked, evaluationRefusal, keptOf, searchedAs, searchFrom, search}
-use Rattle.search.specs.Rooms.{stackWords, framesLeft, mostPaths, slotWidth, keptLeft, scoresLeftIn, roomsRefusal, leftIn}
+use Rattle.search.specs.Rooms.{stackWords, framesLeft, mostPaths, slotWidth, keptLeft, keptScoresLeft, roomsRefusal, leftIn}
 use Rattle.search.specs.Answers.{Rooms, searchRefusal, replyOf, searchAnswer, roomsAfter, searchRooms}
 
 -- ---- how the rows are written
@@ -88,7 +88,7 @@ pub record Answers : Type 0 where
   pub kept : SearchBudget → Kept Evaluated
 
 unfoldable pub on : List ℕ → Answers
-unfolding little number each split sum all any count keep after rising numbersFrom distinct portOf wordOrder portOrder headerOf sound2 sound3 opened entryOf entries counts pathCounts paths lanePorts hub portsOf startOf families pathsOf zipLanes panelBy panelOf countOk names noTwice sound5a sound5b sound5 lengthOk sound4 letter soundPort soundRecord soundRecords place placeLt hubLt hubRising laneRising lanesRising samePort listed sound8 from ownRow ownRows sound6 sound7 portsChecked later checked panelE panelRefusal joining portsAt encode widthOk someOfEach inBounds budgetRefusal enter terminalTask memberTask portUnit hubUnit unitOf units run seeds seeded afterSeeding walkFrom walk mostSwitches tallyOf tiesTo lowered added keepOne keepAll sameList evaluated scoresRefusal walked evaluationRefusal keptOf searchedAs searchFrom search stackWords framesLeft mostPaths slotWidth keptLeft scoresLeftIn roomsRefusal leftIn searchRefusal replyOf searchAnswer roomsAfter searchRooms bucketLo bucketHi Ieee.lt Ieee.le Ieee.sub Ieee.ofBits
+unfolding little number each split sum all any count keep after rising numbersFrom distinct portOf wordOrder portOrder headerOf sound2 sound3 opened entryOf entries counts pathCounts paths lanePorts hub portsOf startOf families pathsOf zipLanes panelBy panelOf countOk names noTwice sound5a sound5b sound5 lengthOk sound4 letter soundPort soundRecord soundRecords place placeLt hubLt hubRising laneRising lanesRising samePort listed sound8 from ownRow ownRows sound6 sound7 portsChecked later checked panelE panelRefusal joining portsAt encode widthOk budgetOk budgetInBounds budgetRefusal enter terminalTask memberTask portUnit hubUnit unitOf units run seeds seeded afterSeeding walkFrom walk mostSwitches tallyOf tiesTo lowered added keepOne keepAll sameList evaluated scoresRefusal walked evaluationRefusal keptOf searchedAs searchFrom search stackWords framesLeft mostPaths slotWidth keptLeft keptScoresLeft roomsRefusal leftIn searchRefusal replyOf searchAnswer roomsAfter searchRooms bucketLo bucketHi Ieee.lt Ieee.le Ieee.sub Ieee.ofBits
 on s =
     record {
       bucket = λ w. bucketLo (panelOf s) w ∷ bucketHi (panelOf s) w ∷ [];
