@@ -4,29 +4,32 @@ use mathlib.Core.Path.{_≡_}
 use mathlib.Core.Logic.{_↔_}
 use mathlib.Core.Bool.{Bool, true, false}
 use mathlib.Core.List.{List, [], _∷_, map, List·Memᴰ}
+use lib.ListN.{length}
 use lib.Ieee.{Float}
 use Rattle.image.specs.Panel.{Panel, panelOf}
 use Rattle.evaluate.specs.declared.AssignmentReply.{AssignmentReply}
-use Rattle.evaluate.specs.Segments.{Assignment, normalForm}
+use Rattle.evaluate.specs.Segments.{Assignment, normalForm, flat}
 use Rattle.evaluate.specs.Legal.{Legal, SoundSpans}
-use Rattle.evaluate.specs.Check.{checkAnswer}
+use Rattle.evaluate.specs.Check.{checkAnswer, over}
 use Rattle.search.specs.declared.SearchBudget.{SearchBudget}
 use Rattle.search.specs.declared.SearchReply.{SearchReply}
 use Rattle.search.specs.declared.ListReply.{ListReply}
+use Rattle.search.specs.declared.Status.the-variants.{Certified}
 use Rattle.search.specs.Run.{Unbudgeted, Suffices}
+use Rattle.search.specs.Counters.{statusNumber}
 use Rattle.search.specs.Keep.{Kept, Evaluated}
-use Rattle.search.specs.Answers.{Rooms, ListRooms, searchAnswer, listAnswer, written}
-use Rattle.certificate.specs.Terms.{Accepted, Within, Admitted, Exhausted, handedOver, keptBy, Scores, NativesThenLegal, Least, Ties, NoTwo, assignmentOf}
+use Rattle.search.specs.Answers.{Rooms, ListRooms, searchAnswer, listAnswer, listRooms, written}
+use Rattle.certificate.specs.Terms.{PanelAccepted, Within, Admitted, Exhausted, handedOver, keptBy, Scores, NativesThenLegal, Least, Ties, NoTwo, assignmentOf}
 
 -- The check accepts an assignment exactly when its spans are sound and its normal form is legal.
 abbrev pub CheckIsLegality : Type 0
 CheckIsLegality =
-    (s ws : List ℕ) (room : ℕ) (a : Assignment) → Accepted s → Within ws room a
+    (s ws : List ℕ) (room : ℕ) (a : Assignment) → PanelAccepted s → Within ws room a
     → (checkAnswer s ws room .refusal ≡ 0) ↔ (SoundSpans (panelOf s) a × Legal (panelOf s) (normalForm a))
 
 -- The walk without budgets ends, on every accepted panel.
 abbrev pub WalkEnds : Type 0
-WalkEnds = (s : List ℕ) → Accepted s → Unbudgeted (panelOf s)
+WalkEnds = (s : List ℕ) → PanelAccepted s → Unbudgeted (panelOf s)
 
 -- The search reports exhaustion exactly when its three budgets suffice.
 abbrev pub ExhaustedWhenEnough : Type 0
@@ -60,14 +63,17 @@ pub record TiedAre (s : List ℕ) (b : SearchBudget) (xs : List Float) (i : Eval
 abbrev pub TiedAreAll : Type 0
 TiedAreAll =
     (s : List ℕ) (b : SearchBudget) (xs : List Float) (rooms : Rooms) → Admitted s b xs rooms
-    → searchAnswer s b xs rooms .status ≡ 1 → (i : Evaluated) → keptBy s b xs .best ≡ i ∷ [] → TiedAre s b xs i
+    → searchAnswer s b xs rooms .status ≡ statusNumber Certified → (i : Evaluated) → keptBy s b xs .best ≡ i ∷ [] → TiedAre s b xs i
 
--- The listing makes the search's evaluations, in its order and under its numbers.
+-- The listing makes the search's evaluations, and writes the words of those from number from + 1 on, in order, as many as fit.
+pub record SameEvaluations (s : List ℕ) (b : SearchBudget) (xs : List Float) (rooms : Rooms) (from : ℕ) (lent : ListRooms) : Type 0 where
+  pub many : listAnswer s b from lent .evaluations ≡ searchAnswer s b xs rooms .evaluations
+  pub words : listRooms s b from lent .out ≡ over (flat (written from (length (lent .out)) (handedOver s b))) (lent .out)
+
 abbrev pub ListsTheSame : Type 0
 ListsTheSame =
     (s : List ℕ) (b : SearchBudget) (xs : List Float) (rooms : Rooms) (from : ℕ) (lent : ListRooms)
-    → searchAnswer s b xs rooms .refusal ≡ 0 → listAnswer s b from lent .refusal ≡ 0
-    → listAnswer s b from lent .evaluations ≡ searchAnswer s b xs rooms .evaluations
+    → searchAnswer s b xs rooms .refusal ≡ 0 → listAnswer s b from lent .refusal ≡ 0 → SameEvaluations s b xs rooms from lent
 
 -- All of it.
 pub record Demand3 : Type 0 where
