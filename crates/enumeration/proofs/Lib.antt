@@ -1,0 +1,5 @@
+pub mod Lists
+pub mod Tree
+pub mod Sim
+pub mod Stack
+pub mod Measure
