@@ -3,3 +3,7 @@ pub mod Tree
 pub mod Sim
 pub mod Stack
 pub mod Measure
+pub mod Ports
+pub mod Given
+pub mod Legal
+pub mod Once

@@ -26,9 +26,9 @@ module _ (p : Panel) (paths : List ℕ) where
   unitOn (on [] out) = on [] out
   unitOn (on (f ∷ rest) out) = acted rest out (unitOf p paths f)
 
-  abbrev pub units : ℕ → Stack → Stack
-  units zero s = s
-  units (suc n) s = units n (unitOn s)
+  abbrev pub steps : ℕ → Stack → Stack
+  steps zero s = s
+  steps (suc n) s = steps n (unitOn s)
 
   abbrev pub tasksIn : Stack → State Place (List Route)
   tasksIn (on st out) = at (map (remaining p paths) st) out
@@ -59,7 +59,7 @@ module _ (p : Panel) (paths : List ℕ) where
   unit-is (on [] out) h = (refl, tt)
   unit-is (on (f ∷ rest) out) h = acted-is f rest out (unitOf p paths f) (unit-does p paths f (h .0)) (h .1)
 
-  pub units-are : (n : ℕ) (s : Stack) → GoodStack s → tasksIn (units n s) ≡ iter (tasksOf p paths) n (tasksIn s)
+  pub units-are : (n : ℕ) (s : Stack) → GoodStack s → tasksIn (steps n s) ≡ iter (tasksOf p paths) n (tasksIn s)
   units-are zero s h = refl
   units-are (suc n) s h = let u = unit-is s h in units-are n (unitOn s) (u .1) ∙ ap (iter (tasksOf p paths) n) (u .0)
 
@@ -74,12 +74,12 @@ module _ (p : Panel) (paths : List ℕ) where
   emptied (on [] o) out e = ap (on []) (ap outOf e)
   emptied (on (f ∷ st) o) out e = absurd (cons≢nil (ap depth e))
 
-  -- the walk of a family: for some number of units the stack is empty and the enumerated routes have been handed over
+  -- the walk of a family: for some number of steps the stack is empty and the enumerated routes have been handed over
   module _ (Ok : Place → Type 0) (μ : Place → ℕ)
       (falls : (a b : Place) → Ok a → List·Memᴰ (down b) (tasksOf p paths a) → Ok b × (μ b < μ a)) where
-    pub walked : (d : ℕ) (a : Place) → Ok a × (μ a < d) → (out : List (List Route)) → (n : ℕ) × (units n (on (enter p a ∷ []) out) ≡ on [] (out ++ enum (tasksOf p paths) d a))
+    pub walked : (d : ℕ) (a : Place) → Ok a × (μ a < d) → (out : List (List Route)) → (n : ℕ) × (steps n (on (enter p a ∷ []) out) ≡ on [] (out ++ enum (tasksOf p paths) d a))
     walked d a h out = let r = run-node (tasksOf p paths) Ok μ falls d a h [] out in (
       r .0,
-      emptied (units (r .0) (on (enter p a ∷ []) out)) (out ++ enum (tasksOf p paths) d a)
+      emptied (steps (r .0) (on (enter p a ∷ []) out)) (out ++ enum (tasksOf p paths) d a)
           (units-are (r .0) (on (enter p a ∷ []) out) (enter-good a, tt) ∙ rw enter-tasks (r .1)),
     )
