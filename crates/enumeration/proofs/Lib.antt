@@ -7,3 +7,4 @@ pub mod Ports
 pub mod Given
 pub mod Legal
 pub mod Once
+pub mod Whole
