@@ -10,6 +10,7 @@ use lib.ListN.{length, take, drop, getD, drop-of-length-le}
 use lib.Seq.{drop-cons, append-snoc}
 use borrow.Author.Tests.{eqb-true, eqb-false, eq-eqb, lt-ltb, lt-leb}
 use Rattle.ground.specs.Lists.{pick, count}
+use Rattle.ground.proofs.Members.{mem-take, mem-drop}
 use Rattle.storage.specs.declared.Port.{Port}
 use Rattle.storage.specs.declared.Order.{Order}
 use Rattle.storage.specs.declared.Order.the-variants.{Less, Equal, Greater}
@@ -24,7 +25,7 @@ use Rattle.evaluate.specs.Segments.{Route, entry, exit, flat, clear, SoundSpan,
 use Rattle.evaluate.specs.Legal.{Leaves, Joint}
 use Rattle.evaluate.proofs.NormalForm.{same-turn, joins, Joins}
 use Rattle.search.specs.Walk.{Task, pass, down, give, Place, Doing, onPath, pieceTo, reach, switched, closes, closed, begins, samePlace, terminalTask, memberTask, portsHere, firstPort}
-use Rattle.enumeration.proofs.Lists.{mem-take, mem-drop, mem-drop-take, mem-reverse-in, past-take, past-drop, in-slice, in-drop, in-take, Falling, falling-of}
+use Rattle.enumeration.proofs.Lists.{mem-drop-take, mem-reverse-in, past-take, past-drop, in-slice, in-drop, in-take, Falling, falling-of}
 use Rattle.enumeration.proofs.Tree.{Gives, here, below}
 use Rattle.enumeration.proofs.Sim.{portsIn, portsLeft, over, tasksOf}
 use Rattle.enumeration.proofs.Measure.{and-left, and-right}
@@ -113,7 +114,7 @@ module _ (p : Panel) (sound : Sound p) where
   bucket-word w m i =
       between w m
       (past-drop (wordBelow w) (p .hub) (below-falls w) m (mem-drop-take (bucketLo p w) (bucketHi p w) (p .hub) i))
-      (past-take (wordUpTo w) (p .hub) (up-to-falls w) m (mem-drop (bucketLo p w) (take (bucketHi p w) (p .hub)) i))
+      (past-take (wordUpTo w) (p .hub) (up-to-falls w) m (mem-drop (bucketLo p w) _ (take (bucketHi p w) (p .hub)) i))
 
   bucket-in : (m : Port) → List·Memᴰ m (p .hub) → List·Memᴰ m (bucket p (m .word))
   unfolding bucketOf
@@ -209,7 +210,7 @@ module _ (p : Panel) (sound : Sound p) where
       found = let c = coming p sound a (a .reverse) q (w .among) in (c .0, subst (λ r. Past (a .reverse) (a .cut) (cutAs (p .k) r (q .anchor))) (sym (w .turn)) (c .1))
 
       in-hub : List·Memᴰ m (p .hub)
-      in-hub = mem-take (bucketHi p (q .word)) (p .hub) (mem-drop (bucketLo p (q .word)) (take (bucketHi p (q .word)) (p .hub)) (w .inBucket))
+      in-hub = mem-take (bucketHi p (q .word)) _ (p .hub) (mem-drop (bucketLo p (q .word)) _ (take (bucketHi p (q .word)) (p .hub)) (w .inBucket))
 
       joint : (t : Segment) → Begins t (m .source) (cutOf m (p .k)) (m .reverse) → Joint p s t × Unjoined s t
       joint t g =

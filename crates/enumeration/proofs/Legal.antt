@@ -1,20 +1,17 @@
 -- The walk's own words for a legal assignment, chains and clearness, are those of Legal.
-use Prim.Native.Nat.{ℕ, _≤_, _<_}
-use native.Mathlib.Omega.{arith}
-use mathlib.Core.Path.{_≡_, refl, sym, _∙_}
+use Prim.Native.Nat.{ℕ, _<_}
+use mathlib.Core.Path.{_≡_, refl}
 use mathlib.Core.Logic.{_↔_}
-use mathlib.Core.Bool.{Bool, true, false, not, _&&_, true≢false}
+use mathlib.Core.Bool.{Bool, true, false}
 use mathlib.Core.List.{List, [], _∷_, _++_}
-use borrow.Author.Tests.{not-true}
-use Rattle.ground.specs.Lists.{all}
-use Rattle.ground.proofs.ListLaws.{both}
 use Rattle.image.specs.Panel.{Panel}
 use Rattle.evaluate.specs.declared.Segment.{Segment}
 use Rattle.evaluate.specs.Properties.{Each, Pairs, Neighbours, First, Last, Matched}
-use Rattle.evaluate.specs.Segments.{Route, entry, flat, overlap, clear, Share, SoundSpan, Unjoined}
+use Rattle.evaluate.specs.Segments.{Route, entry, Share, SoundSpan, Unjoined}
 use Rattle.evaluate.specs.Legal.{Enters, Leaves, Joint, LegalRoute, Apart}
-use Rattle.evaluate.proofs.Bases.{overlap-share, share-overlap}
-use Rattle.enumeration.proofs.Lists.{each-map, each-append}
+use Rattle.evaluate.proofs.NormalForm.{Filled}
+use Rattle.evaluate.proofs.CheckLegal.{each-append, append-each, clear-to, clear-from}
+use Rattle.enumeration.proofs.Lists.{each-map}
 use Rattle.enumeration.proofs.Given.{Begins, Chain, RouteOf, Clear}
 
 -- ---- a chain is a legal route
@@ -79,29 +76,6 @@ matched-map P Q f (a ∷ l) (b ∷ m) h = (f a b (h .0), matched-map P Q f l m (
 apart-back : (s t : Segment) → Apart s t → Apart t s
 apart-back s t h c = h (record { lane = c .lane; base = c .base; left = c .right; right = c .left })
 
-clear-apart : (s : Segment) (path : List Segment) → clear s path ≡ true → Each (Apart s) path
-unfolding all
-clear-apart s [] h = tt
-clear-apart s (t ∷ path) h =
-    let (x, y) = both (not (overlap s t)) (clear s path) h in
-    (λ c. true≢false (sym (share-overlap s t c) ∙ not-true (overlap s t) x), clear-apart s path y)
-
-abbrev Some : Segment → Type 0
-Some s = s .start < s .end
-
-apart-clear : (s : Segment) (path : List Segment) → Some s → Each Some path → Each (Apart s) path → clear s path ≡ true
-unfolding all
-apart-clear s [] f e h = refl
-apart-clear s (t ∷ path) f e h = rw (apart-clear s path f (e .1) (h .1)) (go (overlap s t) refl)
-  where
-    go : (b : Bool) → overlap s t ≡ b → (not b && true) ≡ true
-    go false q = refl
-    go true q = absurd (h .0 (overlap-share s t f (e .0) q))
-
-each-right : {A : Type 0} (P : A → Type 0) (l m : List A) → Each P (l ++ m) → Each P m
-each-right P [] m h = h
-each-right P (a ∷ l) m h = each-right P l m (h .1)
-
 -- each of these is apart from each of the path
 abbrev Off : List Segment → List Segment → Type 0
 Off path ss = Each (λ t. Each (Apart t) path) ss
@@ -110,19 +84,15 @@ clear-off : (path ss : List Segment) → Clear path ss → Off path ss × Pairs 
 clear-off path [] h = (tt, tt)
 clear-off path (s ∷ ss) h =
     let r = clear-off (path ++ (s ∷ [])) ss (h .1) in (
-      (clear-apart s path (h .0), each-map (λ t. Each (Apart t) (path ++ (s ∷ []))) (λ t. Each (Apart t) path) (λ t k. left t path k) ss (r .0)),
-      (each-map (λ t. Each (Apart t) (path ++ (s ∷ []))) (Apart s) (λ t k. apart-back t s (each-right (Apart t) path (s ∷ []) k .0)) ss (r .0), r .1),
+      (clear-to s path (h .0), each-map (λ t. Each (Apart t) (path ++ (s ∷ []))) (λ t. Each (Apart t) path) (λ t k. append-each (Apart t) path (s ∷ []) k .0) ss (r .0)),
+      (each-map (λ t. Each (Apart t) (path ++ (s ∷ []))) (Apart s) (λ t k. apart-back t s (append-each (Apart t) path (s ∷ []) k .1 .0)) ss (r .0), r .1),
     )
-  where
-    left : (t : Segment) (l : List Segment) → Each (Apart t) (l ++ (s ∷ [])) → Each (Apart t) l
-    left t [] k = tt
-    left t (a ∷ l) k = (k .0, left t l (k .1))
 
-off-clear : (path ss : List Segment) → Each Some path → Each Some ss → Off path ss → Pairs Apart ss → Clear path ss
+off-clear : (path ss : List Segment) → Filled path → Filled ss → Off path ss → Pairs Apart ss → Clear path ss
 off-clear path [] e f h k = tt
 off-clear path (s ∷ ss) e f h k = (
-  apart-clear s path (f .0) e (h .0),
-  off-clear (path ++ (s ∷ [])) ss (each-append Some path (s ∷ []) e (f .0, tt)) (f .1) (longer ss (h .1) (k .0)) (k .1),
+  clear-from s path (f .0) e (h .0),
+  off-clear (path ++ (s ∷ [])) ss (each-append (λ t. t .start < t .end) path (s ∷ []) e (f .0, tt)) (f .1) (longer ss (h .1) (k .0)) (k .1),
 )
   where
     longer : (ss : List Segment) → Off path ss → Each (Apart s) ss → Off (path ++ (s ∷ [])) ss
@@ -133,13 +103,5 @@ none-off : (ss : List Segment) → Off [] ss
 none-off [] = tt
 none-off (s ∷ ss) = (tt, none-off ss)
 
-pub clear-iff : (ss : List Segment) → Each Some ss → Clear [] ss ↔ Pairs Apart ss
+pub clear-iff : (ss : List Segment) → Filled ss → Clear [] ss ↔ Pairs Apart ss
 clear-iff ss f = (λ h. clear-off [] ss h .1, λ k. off-clear [] ss tt f (none-off ss) k)
-
--- ---- the spans of legal routes are not empty
-
-pub spans-of : (p : Panel) (ls : List ℕ) (rs : List Route) → Matched (LegalRoute p) ls rs → Each Some (flat rs)
-spans-of p [] [] h = tt
-spans-of p [] (r ∷ rs) h = absurd h
-spans-of p (l ∷ ls) [] h = tt
-spans-of p (l ∷ ls) (r ∷ rs) h = each-append Some r (flat rs) (each-map (SoundSpan p) Some (λ s k. k .some) r (h .0 .spans)) (spans-of p ls rs (h .1))

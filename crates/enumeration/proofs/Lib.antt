@@ -8,3 +8,6 @@ pub mod Given
 pub mod Legal
 pub mod Once
 pub mod Whole
+pub mod Accepted
+pub mod Budgets
+pub mod Suffice

@@ -7,25 +7,13 @@ use mathlib.Core.List.{List, [], _∷_, _++_, map, reverseAux, List·Memᴰ, Lis
 use lib.ListN.{take, drop}
 use Rattle.ground.specs.Lists.{count, oneMoreIf, after, rising}
 use Rattle.ground.proofs.ListLaws.{both}
+use Rattle.ground.proofs.Members.{mem-take, mem-drop}
 use Rattle.evaluate.specs.Properties.{Each, Pairs}
+use Rattle.evaluate.proofs.CheckLegal.{each-append}
 
 -- ---- members
 
 module _ {A : Type 0} where
-  pub mem-drop : (n : ℕ) (l : List A) {x : A} → List·Memᴰ x (drop n l) → List·Memᴰ x l
-  mem-drop zero l m = m
-  mem-drop (suc n) [] m = m
-  mem-drop (suc n) (a ∷ l) m = List·Memᴰ·tail (mem-drop n l m)
-
-  pub mem-take : (n : ℕ) (l : List A) {x : A} → List·Memᴰ x (take n l) → List·Memᴰ x l
-  mem-take zero l m = absurd (List·Memᴰ·not-nil m)
-  mem-take (suc n) [] m = m
-  mem-take (suc n) (a ∷ l) {x} m = go (mem-take n l) (List·Memᴰ·cases-cons m)
-    where
-      go : (List·Memᴰ x (take n l) → List·Memᴰ x l) → (x ≡ a) ⊎ List·Memᴰ x (take n l) → List·Memᴰ x (a ∷ l)
-      go f (inl e) = List·Memᴰ·head e
-      go f (inr r) = List·Memᴰ·tail (f r)
-
   pub mem-reverse : (l r : List A) {x : A} → List·Memᴰ x (reverseAux l r) → List·Memᴰ x l ⊎ List·Memᴰ x r
   mem-reverse [] r m = inr m
   mem-reverse (a ∷ l) r {x} m = go (mem-reverse l (a ∷ r) m)
@@ -63,7 +51,7 @@ module _ {A : Type 0} where
   mem-map-in f (List·Memᴰ·tail m) = List·Memᴰ·tail (mem-map-in f m)
 
   pub mem-drop-take : (n k : ℕ) (l : List A) {x : A} → List·Memᴰ x (drop n (take k l)) → List·Memᴰ x (drop n l)
-  mem-drop-take zero k l m = mem-take k l m
+  mem-drop-take zero k l m = mem-take k _ l m
   mem-drop-take (suc n) zero l m = absurd (List·Memᴰ·not-nil m)
   mem-drop-take (suc n) (suc k) [] m = m
   mem-drop-take (suc n) (suc k) (a ∷ l) m = mem-drop-take n k l m
@@ -83,12 +71,8 @@ module _ {A : Type 0} (P : A → Type 0) where
   mem-each [] h = tt
   mem-each (a ∷ l) h = (h a (List·Memᴰ·head refl), mem-each l (λ x m. h x (List·Memᴰ·tail m)))
 
-  pub each-append : (l m : List A) → Each P l → Each P m → Each P (l ++ m)
-  each-append [] m h k = k
-  each-append (a ∷ l) m h k = (h .0, each-append l m (h .1) k)
-
   pub each-take : (n : ℕ) (l : List A) → Each P l → Each P (take n l)
-  each-take n l h = mem-each (take n l) (λ x m. each-mem l h (mem-take n l m))
+  each-take n l h = mem-each (take n l) (λ x m. each-mem l h (mem-take n _ l m))
 
 pub each-map : {A : Type 0} (P Q : A → Type 0) → ((a : A) → P a → Q a) → (l : List A) → Each P l → Each Q l
 each-map P Q f [] h = tt
@@ -211,7 +195,7 @@ module _ {A : Type 0} where
         go true true eb ec f (inr r) = f r
         go false true eb ec f (inl e) = rw (none eb) (List·Memᴰ·head e)
         go false true eb ec f (inr r) =
-            let i : List·Memᴰ x (take (count u l) l) = mem-drop (count t l) (take (count u l) l) (f r) in
+            let i : List·Memᴰ x (take (count u l) l) = mem-drop (count t l) _ (take (count u l) l) (f r) in
             rw (none eb) (List·Memᴰ·tail i)
 
   pub in-drop : (t : A → Bool) (x : A) → t x ≡ false → (l : List A) → Falling t l → List·Memᴰ x l → List·Memᴰ x (drop (count t l) l)
@@ -222,7 +206,7 @@ module _ {A : Type 0} where
       always (a ∷ l) = (mem-each _ l (λ r m e. e), always l)
 
   pub in-take : (t : A → Bool) (x : A) → t x ≡ true → (l : List A) → Falling t l → List·Memᴰ x l → List·Memᴰ x (take (count t l) l)
-  in-take t x e l h m = mem-drop (count (λ y. false) l) (take (count t l) l) (in-slice (λ y. false) t x refl e l (never l) h m)
+  in-take t x e l h m = mem-drop (count (λ y. false) l) _ (take (count t l) l) (in-slice (λ y. false) t x refl e l (never l) h m)
     where
       never : (l : List A) → Falling (λ y. false) l
       never [] = tt

@@ -10,6 +10,7 @@ use lib.ListN.{length, take, drop, getD}
 use lib.Seq.{append-snoc}
 use borrow.Author.Tests.{eqb-false, ltb-true}
 use Rattle.ground.specs.Lists.{pick}
+use Rattle.ground.proofs.Members.{mem-take, mem-drop}
 use Rattle.storage.specs.declared.Port.{Port}
 use Rattle.storage.specs.Records.{sameTurn, cutAs, cutOf}
 use Rattle.storage.specs.Orders.{placeOf, placeLt, recordLt, turn}
@@ -21,14 +22,15 @@ use Rattle.evaluate.specs.Properties.{Each, Pairs, Matched}
 use Rattle.evaluate.specs.Segments.{Route, entry, exit, flat, clear}
 use Rattle.evaluate.specs.Legal as Legality
 use Rattle.evaluate.specs.Legal.{LegalRoute}
+use Rattle.evaluate.proofs.CheckLegal.{flat-filled}
 use Rattle.search.specs.Walk.{Task, pass, down, give, Place, Doing, onPath, pieceTo, reach, switched, closes, closed, begins, samePlace, terminalTask, memberTask, portsHere, firstPort, enter}
-use Rattle.enumeration.proofs.Lists.{mem-take, mem-drop, mem-map, each-mem, mem-each, pairs-map, pairs-drop, pairs-take, pairs-reverse}
+use Rattle.enumeration.proofs.Lists.{mem-map, each-mem, mem-each, pairs-map, pairs-drop, pairs-take, pairs-reverse}
 use Rattle.enumeration.proofs.Tree.{Gives, Yields, Apart, NoDup, enum, enum-once, enum-iff}
 use Rattle.enumeration.proofs.Sim.{portsIn, portsLeft, hubTasks, portTasks, over, tasksOf}
 use Rattle.enumeration.proofs.Stack.{Stack, on, steps, walked}
 use Rattle.enumeration.proofs.Ports.{Sound, Switch, bucket, in-over, in-tasks, Past, coming, cut-in, μ, falls}
 use Rattle.enumeration.proofs.Given.{Begins, Chain, RouteOf, Clear, Completes, Fine, gives-legal, gives-iff, terminal-fine, switch-fine, piece-exit, bucket-word}
-use Rattle.enumeration.proofs.Legal.{route-iff, matched-map, clear-iff, spans-of}
+use Rattle.enumeration.proofs.Legal.{route-iff, matched-map, clear-iff}
 
 -- ---- records that differ
 
@@ -147,7 +149,7 @@ module _ (p : Panel) (sound : Sound p) (paths : List ℕ) (a : Place) (ok : Fine
   anchors q r e f = same-anchor (r .reverse) (q .anchor) (r .anchor) (subst (λ t. cutAs (p .k) t (q .anchor) ≡ cutOf r (p .k)) e f)
 
   in-hub : (w : List ℕ) (m : Port) → List·Memᴰ m (bucket p w) → List·Memᴰ m (p .hub)
-  in-hub w m i = mem-take (bucketHi p w) (p .hub) (mem-drop (bucketLo p w) (take (bucketHi p w) (p .hub)) i)
+  in-hub w m i = mem-take (bucketHi p w) _ (p .hub) (mem-drop (bucketLo p w) _ (take (bucketHi p w) (p .hub)) i)
 
   -- the members of one bucket
   members-apart : (q : Port) → (ms : List Port) → ((m : Port) → List·Memᴰ m ms → List·Memᴰ m (p .hub) × (m .word ≡ q .word)) → Pairs OtherPort ms
@@ -269,13 +271,13 @@ root-iff p (l ∷ ls) x h = (to, from x)
     to c =
         let rs = c .more ∷ c .later in
         let m = routes rs (c .chain, c .rest) in
-        subst (LegalRoutes p (l ∷ ls)) (sym (c .is)) (record { routes = m; apart = clear-iff (flat rs) (spans-of p (l ∷ ls) rs m) .0 (c .clears) })
+        subst (LegalRoutes p (l ∷ ls)) (sym (c .is)) (record { routes = m; apart = clear-iff (flat rs) (flat-filled p (l ∷ ls) rs m) .0 (c .clears) })
 
     from : (x : List Route) → LegalRoutes p (l ∷ ls) x → Completes p (l ∷ ls) x (rootOf (l ∷ ls))
     from [] g = absurd (g .routes)
     from (r ∷ rs) g =
         let m = back (r ∷ rs) (g .routes) in
-        record { more = r; later = rs; is = refl; chain = m .0; rest = m .1; clears = clear-iff (flat (r ∷ rs)) (spans-of p (l ∷ ls) (r ∷ rs) (g .routes)) .1 (g .apart) }
+        record { more = r; later = rs; is = refl; chain = m .0; rest = m .1; clears = clear-iff (flat (r ∷ rs)) (flat-filled p (l ∷ ls) (r ∷ rs) (g .routes)) .1 (g .apart) }
 
 -- after some number of units the stack of a family is empty, and each legal assignment has been handed over once
 pub family-walk : (p : Panel) → Sound p → (paths : List ℕ) → 0 < length paths

@@ -11,6 +11,7 @@ use lib.ListN.{length, take, drop, getD, List·getD-eq-default}
 use lib.Seq.{slice}
 use borrow.Author.Tests.{ltb-true, ltb-false, leb-true, leb-false, eqb-true, le-leb, lt-ltb, not-true}
 use Rattle.ground.specs.Lists.{pick, count}
+use Rattle.ground.proofs.Members.{mem-take, mem-drop}
 use Rattle.storage.specs.declared.Port.{Port}
 use Rattle.storage.specs.Records.{sameTurn, cutAs, cutOf}
 use Rattle.storage.specs.Orders.{placeOf, placeLt, recordLt, turn}
@@ -21,7 +22,7 @@ use Rattle.evaluate.specs.Properties.{Pairs}
 use Rattle.evaluate.specs.Segments.{flat, clear}
 use Rattle.evaluate.proofs.NormalForm.{same-turn}
 use Rattle.search.specs.Walk.{Task, pass, down, give, Place, Doing, onPath, pieceTo, reach, switched, closes, closed, begins, samePlace, terminalTask, memberTask, portsHere, firstPort}
-use Rattle.enumeration.proofs.Lists.{mem-drop, mem-take, mem-reverse, mem-map, mem-map-in, Falling, falling-of, past-drop, past-take}
+use Rattle.enumeration.proofs.Lists.{mem-reverse, mem-map, mem-map-in, Falling, falling-of, past-drop, past-take}
 use Rattle.enumeration.proofs.Sim.{portsIn, portsLeft, hubTasks, portTasks, over, tasksOf}
 use Rattle.enumeration.proofs.Measure.{and-left, and-right, free, free-falls}
 
@@ -123,7 +124,7 @@ module _ (p : Panel) (a : Place) where
       go : (b : Bool) → ltb 0 hi ≡ b → List·Memᴰ (memberTask p a q m) (pick b (map (memberTask p a q) (slice lo hi (p .hub)) ++ (pass ∷ [])) [])
       go true e = Memᴰ·append-left (pass ∷ []) (mem-map-in (memberTask p a q) i)
       go false e = let l : hi ≤ 0 = ltb-false 0 hi e in let z : hi ≡ 0 = omega arith in
-          let j : List·Memᴰ m (take 0 (p .hub)) = subst (λ n. List·Memᴰ m (take n (p .hub))) z (mem-drop lo (take hi (p .hub)) i) in absurd (List·Memᴰ·not-nil j)
+          let j : List·Memᴰ m (take 0 (p .hub)) = subst (λ n. List·Memᴰ m (take n (p .hub))) z (mem-drop lo _ (take hi (p .hub)) i) in absurd (List·Memᴰ·not-nil j)
 
   port-in : (q m : Port) → q .reverse ≡ a .reverse → List·Memᴰ m (bucket p (q .word)) → List·Memᴰ (memberTask p a q m) (portTasks p a q)
   port-in q m e i = rw (turn-test (q .reverse) (a .reverse) e) (List·Memᴰ·tail (hub-in q m (bucketLo p (q .word)) (bucketHi p (q .word)) i))
@@ -234,7 +235,7 @@ module _ (p : Panel) (sound : Sound p) where
       let n = count (λ g. leb (cutAs (p .k) false (g .anchor)) (a .cut)) l in
       let e : suc n - 1 ≡ n = omega arith in
       let m′ : List·Memᴰ q (drop n l) = subst (λ i. List·Memᴰ q (drop i l)) e m in
-      (mem-drop n l m′, leb-false (q .anchor + p .k / 2) (a .cut) (past-drop (λ g. leb (cutAs (p .k) false (g .anchor)) (a .cut)) l (ahead-falls p (a .cut) l (sound .rows (a .source))) q m′))
+      (mem-drop n _ l m′, leb-false (q .anchor + p .k / 2) (a .cut) (past-drop (λ g. leb (cutAs (p .k) false (g .anchor)) (a .cut)) l (ahead-falls p (a .cut) l (sound .rows (a .source))) q m′))
   coming a true q m = go (mem-reverse (take n l) [] m)
     where
       l : List Port
@@ -244,7 +245,7 @@ module _ (p : Panel) (sound : Sound p) where
       n = count (λ g. ltb (cutAs (p .k) true (g .anchor)) (a .cut)) l
 
       go : List·Memᴰ q (take n l) ⊎ List·Memᴰ q [] → List·Memᴰ q l × (q .anchor + (p .k - p .k / 2) < a .cut)
-      go (inl k) = (mem-take n l k, ltb-true (q .anchor + (p .k - p .k / 2)) (a .cut) (past-take (λ g. ltb (cutAs (p .k) true (g .anchor)) (a .cut)) l (behind-falls p (a .cut) l (sound .rows (a .source))) q k))
+      go (inl k) = (mem-take n _ l k, ltb-true (q .anchor + (p .k - p .k / 2)) (a .cut) (past-take (λ g. ltb (cutAs (p .k) true (g .anchor)) (a .cut)) l (behind-falls p (a .cut) l (sound .rows (a .source))) q k))
       go (inr k) = absurd (List·Memᴰ·not-nil k)
 
   pub falls : (paths : List ℕ) (a b : Place) → Ok p a → List·Memᴰ (down b) (tasksOf p paths a) → Ok p b × (μ p b < μ p a)
@@ -260,7 +261,7 @@ module _ (p : Panel) (sound : Sound p) where
           let r = member-down p paths a b (s .port) (s .member) (s .is) in
           let c = coming a (a .reverse) (s .port) (s .among) in
           let h : Past (a .reverse) (a .cut) (cutOf (s .port) (p .k)) = rw (s .turn) (c .1) in
-          let i : List·Memᴰ (s .member) (p .hub) = mem-take (bucketHi p (s .port .word)) (p .hub) (mem-drop (bucketLo p (s .port .word)) _ (s .inBucket)) in
+          let i : List·Memᴰ (s .member) (p .hub) = mem-take (bucketHi p (s .port .word)) _ (p .hub) (mem-drop (bucketLo p (s .port .word)) _ _ (s .inBucket)) in
           rw (r .2, ← (append-assoc (flat (a .routes)) (a .route) (reach p a (s .port) ∷ []))) (
             cut-in p (s .member .reverse) (s .member .anchor) _ (sound .inLane (s .member .source) (s .member) (sound .ofHub (s .member) i)),
             piece-falls p a ok (a .reverse) (cutOf (s .port) (p .k)) h (cut-in p (s .port .reverse) (s .port .anchor) _ (sound .inLane (a .source) (s .port) (c .0))) (r .1),
