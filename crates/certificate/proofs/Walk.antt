@@ -39,6 +39,7 @@ pairs-neighbours R (a ∷ []) h = tt
 pairs-neighbours R (a ∷ b ∷ l) h = (h .0 .0, pairs-neighbours R (b ∷ l) (h .1))
 
 pub all-evaluated-once : AllEvaluated
+unfolding walk-ends
 all-evaluated-once s b xs rooms given h =
     let r = accepted-ends s (given .panel) in
     let u = walk-ends s (given .panel) in

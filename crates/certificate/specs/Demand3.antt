@@ -8,6 +8,7 @@ use lib.ListN.{length}
 use lib.Ieee.{Float}
 use Rattle.image.specs.Panel.{Panel, panelOf}
 use Rattle.evaluate.specs.declared.AssignmentReply.{AssignmentReply}
+use Rattle.evaluate.specs.Properties.{Pairs}
 use Rattle.evaluate.specs.Segments.{Assignment, normalForm, flat}
 use Rattle.evaluate.specs.Legal.{Legal, SoundSpans}
 use Rattle.evaluate.specs.Check.{checkAnswer, over}
@@ -19,7 +20,7 @@ use Rattle.search.specs.Run.{Unbudgeted, Suffices}
 use Rattle.search.specs.Counters.{statusNumber}
 use Rattle.search.specs.Keep.{Kept, Evaluated}
 use Rattle.search.specs.Answers.{Rooms, ListRooms, searchAnswer, listAnswer, listRooms, written}
-use Rattle.certificate.specs.Terms.{PanelAccepted, Within, Admitted, Exhausted, handedOver, keptBy, Scores, NativesThenLegal, Least, Ties, NoTwo, assignmentOf}
+use Rattle.certificate.specs.Terms.{PanelAccepted, Within, Admitted, Exhausted, handedOver, keptBy, Scores, NativesThenLegal, Least, Ties, NoTwo, Earlier, assignmentOf}
 
 -- The check accepts an assignment exactly when its spans are sound and its normal form is legal.
 abbrev pub CheckIsLegality : Type 0
@@ -55,10 +56,12 @@ IncumbentIsLeast =
     (s : List ℕ) (b : SearchBudget) (xs : List Float) (rooms : Rooms) → Admitted s b xs rooms
     → Exhausted (searchAnswer s b xs rooms) → (i : Evaluated) × (keptBy s b xs .best ≡ i ∷ []) × Least s b xs i
 
--- If besides nothing was discarded, the tied list holds exactly the legal assignments within the tie width of the incumbent, each once.
+-- If besides nothing was discarded, the tied list holds exactly the legal assignments within the tie width of the incumbent, each once,
+-- in the order in which they were first handed over.
 pub record TiedAre (s : List ℕ) (b : SearchBudget) (xs : List Float) (i : Evaluated) : Type 0 where
   pub exact : (e : Evaluated) → List·Memᴰ e (keptBy s b xs .tied) ↔ Ties s b xs i e
   pub once : NoTwo (map assignmentOf (keptBy s b xs .tied))
+  pub inOrder : Pairs (Earlier (handedOver s b)) (map assignmentOf (keptBy s b xs .tied))
 
 abbrev pub TiedAreAll : Type 0
 TiedAreAll =

@@ -21,7 +21,7 @@ use Rattle.enumeration.proofs.Budgets.{Live, walkIn, Begun, begun, grow
 -- ---- seeding
 
 module _ (p : Panel) where
-  natives-length : length (nativesOf p) ≡ length (p .families)
+  pub natives-length : length (nativesOf p) ≡ length (p .families)
   unfolding nativesOf
   natives-length = length-map (numbersFrom 0 (length (p .families))) (nativeOf p) ∙ numbers-length 0 (length (p .families))
 

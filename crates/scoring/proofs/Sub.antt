@@ -110,7 +110,7 @@ sub-rounded f s m e t n d = sum-rounded f s (m * up e * down d) (not t) (n * up 
 crossed : (p n d p' n' d' q o e q' o' e' : ℕ) → p * d' + n' * d ≤ p' * d + n * d' → q' * e + o * e' ≤ q * e' + o' * e
     → (p * e + o * d) * (d' * e') + (n' * e' + q' * d') * (d * e) ≤ (p' * e' + o' * d') * (d * e) + (n * e + q * d) * (d' * e')
 crossed p n d p' n' d' q o e q' o' e' h k =
-    let a = simp (add-mul, mul-assoc, mul-comm, mul-left-comm) at (mul-le-mul-right (e * e') h) in
+    let a = simp (add-mul, mul-assoc, mul-comm) at (mul-le-mul-right (e * e') h) in
     let b = simp (add-mul, mul-assoc, mul-comm, mul-left-comm) at (mul-le-mul-right (d * d') k) in
     simp (add-mul, mul-assoc, mul-comm, mul-left-comm) (omega arith)
 
