@@ -14,14 +14,14 @@ use Rattle.evaluate.specs.Segments.{Assignment, nativeOf}
 use Rattle.evaluate.specs.Legal.{Legal}
 use Rattle.evaluate.proofs.Native.{native-legal}
 use Rattle.search.specs.declared.SearchBudget.{SearchBudget}
-use Rattle.search.specs.Run.{Walk, Walked, exhausted, walk, nativesOf, outset, Unbudgeted, Suffices}
+use Rattle.search.specs.Run.{Walk, Walked, exhausted, unlimited, walk, nativesOf, outset, Unbudgeted, Suffices}
 use Rattle.search.specs.Answers.{Rooms, searchAnswer}
 use Rattle.enumeration.proofs.Lists.{mem-map}
 use Rattle.enumeration.proofs.Whole.{Ends}
 use Rattle.enumeration.proofs.Accepted.{accepted-ends}
-use Rattle.enumeration.proofs.Suffice.{ends-iff, ends-as}
+use Rattle.enumeration.proofs.Suffice.{one-end, ends-iff, ends-as}
 use Rattle.certificate.specs.Terms.{PanelAccepted, Admitted, Exhausted, NativesThenLegal, handedOver}
-use Rattle.certificate.specs.Demand3.{WalkEnds, ExhaustedWhenEnough, AllEvaluated}
+use Rattle.certificate.specs.Demand3.{WalkEnds, WholeWalk, ExhaustedWhenEnough, AllEvaluated}
 use Rattle.certificate.proofs.Reply.{some-frontier, exhausted-iff}
 
 pub walk-ends : WalkEnds
@@ -38,12 +38,10 @@ pairs-neighbours R [] h = tt
 pairs-neighbours R (a ∷ []) h = tt
 pairs-neighbours R (a ∷ b ∷ l) h = (h .0 .0, pairs-neighbours R (b ∷ l) (h .1))
 
-pub all-evaluated-once : AllEvaluated
-unfolding walk-ends
-all-evaluated-once s b xs rooms given h =
-    let r = accepted-ends s (given .panel) in
-    let u = walk-ends s (given .panel) in
-    let same = ends-as (panelOf s) b (given .families) (some-frontier b (given .budget)) u (exhausted-iff s b xs rooms given .0 h) in
+pub whole-walk : WholeWalk
+whole-walk s e u =
+    let r = accepted-ends s e in
+    let same = one-end (panelOf s) unlimited (u .steps) (r .run .0) (outset (panelOf s)) (u .final) (r .final) (u .ends) (r .run .1) in
     record {
       found = r .found;
       first = ap (λ (w : Walk). w .out) same ∙ r .out;
@@ -51,6 +49,12 @@ all-evaluated-once s b xs rooms given h =
       once = r .each .once;
       inOrder = pairs-neighbours (λ (a c : Assignment). a .family ≤ c .family) (r .found) (r .each .inOrder);
     }
+
+pub all-evaluated-once : AllEvaluated
+all-evaluated-once s b xs rooms given h =
+    let u = walk-ends s (given .panel) in
+    let same = ends-as (panelOf s) b (given .families) (some-frontier b (given .budget)) u (exhausted-iff s b xs rooms given .0 h) in
+    subst (λ (w : Walk). NativesThenLegal (panelOf s) (w .out)) (sym same) (whole-walk s (given .panel) u)
 
 -- ---- whatever was handed over is legal
 

@@ -16,7 +16,7 @@ use Rattle.search.specs.declared.SearchBudget.{SearchBudget}
 use Rattle.search.specs.declared.SearchReply.{SearchReply}
 use Rattle.search.specs.declared.ListReply.{ListReply}
 use Rattle.search.specs.declared.Status.the-variants.{Certified}
-use Rattle.search.specs.Run.{Unbudgeted, Suffices}
+use Rattle.search.specs.Run.{Walk, Unbudgeted, Suffices}
 use Rattle.search.specs.Counters.{statusNumber}
 use Rattle.search.specs.Keep.{Kept, Evaluated}
 use Rattle.search.specs.Answers.{Rooms, ListRooms, searchAnswer, listAnswer, listRooms, written}
@@ -31,6 +31,10 @@ CheckIsLegality =
 -- The walk without budgets ends, on every accepted panel.
 abbrev pub WalkEnds : Type 0
 WalkEnds = (s : List ℕ) → PanelAccepted s → Unbudgeted (panelOf s)
+
+-- It hands over one native per family, in order, and after them each legal assignment exactly once, family by family.
+abbrev pub WholeWalk : Type 0
+WholeWalk = (s : List ℕ) → PanelAccepted s → (u : Unbudgeted (panelOf s)) → NativesThenLegal (panelOf s) (u .final .out)
 
 -- The search reports exhaustion exactly when its three budgets suffice.
 abbrev pub ExhaustedWhenEnough : Type 0
@@ -68,9 +72,12 @@ TiedAreAll =
     (s : List ℕ) (b : SearchBudget) (xs : List Float) (rooms : Rooms) → Admitted s b xs rooms
     → searchAnswer s b xs rooms .status ≡ statusNumber Certified → (i : Evaluated) → keptBy s b xs .best ≡ i ∷ [] → TiedAre s b xs i
 
--- The listing makes the search's evaluations, and writes the words of those from number from + 1 on, in order, as many as fit.
+-- The listing makes the search's evaluations, one for each assignment handed over, and writes the words of those from number from + 1 on,
+-- in order, as many as fit.
 pub record SameEvaluations (s : List ℕ) (b : SearchBudget) (xs : List Float) (rooms : Rooms) (from : ℕ) (lent : ListRooms) : Type 0 where
   pub many : listAnswer s b from lent .evaluations ≡ searchAnswer s b xs rooms .evaluations
+  pub numbered : listAnswer s b from lent .evaluations ≡ length (handedOver s b)
+  pub wrote : listAnswer s b from lent .written ≡ length (written from (length (lent .out)) (handedOver s b))
   pub words : listRooms s b from lent .out ≡ over (flat (written from (length (lent .out)) (handedOver s b))) (lent .out)
 
 abbrev pub ListsTheSame : Type 0
@@ -82,6 +89,7 @@ ListsTheSame =
 pub record Demand3 : Type 0 where
   pub check : CheckIsLegality
   pub ends : WalkEnds
+  pub whole : WholeWalk
   pub exhausted : ExhaustedWhenEnough
   pub evaluated : AllEvaluated
   pub scored : AllScored

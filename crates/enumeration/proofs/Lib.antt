@@ -11,3 +11,4 @@ pub mod Whole
 pub mod Accepted
 pub mod Budgets
 pub mod Suffice
+pub mod Tally

@@ -61,7 +61,8 @@ stopped-is : (s : Phase) → stopped s .ending ≡ exhausted → s ≡ ended exh
 stopped-is (going w) q = let z : _≡_ {A = ℕ} 0 1 = cc in absurd (omega arith)
 stopped-is (ended e w) q = ap (λ (x : Ending). ended x w) q
 
-one-end : (p : Panel) (lim : Limits) (m n : ℕ) (s : Phase) (v w : Walk) → units p lim m s ≡ ended exhausted v → units p lim n s ≡ ended exhausted w → v ≡ w
+-- a walk has one end
+pub one-end : (p : Panel) (lim : Limits) (m n : ℕ) (s : Phase) (v w : Walk) → units p lim m s ≡ ended exhausted v → units p lim n s ≡ ended exhausted w → v ≡ w
 one-end p lim m n s v w e f =
     let x : units p lim (m + n) s ≡ ended exhausted v = units-add p lim m n s ∙ ap (units p lim n) e ∙ ended-stays p lim n exhausted v in
     let y : units p lim (n + m) s ≡ ended exhausted w = units-add p lim n m s ∙ ap (units p lim m) f ∙ ended-stays p lim m exhausted w in
