@@ -19,6 +19,7 @@ use Rattle.search.specs.Counters.{tallyOf}
 use Rattle.search.specs.Search.{search, searchFrom, searchedAs, walked}
 use Rattle.search.specs.Rooms.{leftIn}
 use Rattle.search.specs.Answers.{Rooms, ListRooms, searchRefusal, refusedSearch, replyOf, searchAnswer, listRefusal, refusedList, written, listReplyOf, listAnswer, listedIn, listRooms}
+use Rattle.enumeration.proofs.Tally.{walk-tallied}
 use Rattle.certificate.specs.Demand3.{ListsTheSame}
 
 -- an answer whose refusal is 0 is that of a search
@@ -34,8 +35,10 @@ searched s b xs rooms = go (eqb (searchRefusal s b xs rooms .number) 0) refl
     go true e h = refl
     go false e h = absurd (eqb-false (r .number) 0 e h)
 
-listed : (s : List ℕ) (b : SearchBudget) (from : ℕ) (rooms : ListRooms) → listAnswer s b from rooms .refusal ≡ 0 → listAnswer s b from rooms .evaluations ≡ walk (panelOf s) b .walk .evaluations
-unfolding listAnswer listReplyOf
+-- and one of the listing is that of its walk
+listed : (s : List ℕ) (b : SearchBudget) (from : ℕ) (rooms : ListRooms) → listAnswer s b from rooms .refusal ≡ 0
+    → listAnswer s b from rooms ≡ listReplyOf (walk (panelOf s) b) (written from (length (rooms .out)) (walk (panelOf s) b .walk .out))
+unfolding listAnswer
 listed s b from rooms = go (eqb (listRefusal s b rooms .number) 0) refl
   where
     r : Refusal
@@ -44,7 +47,7 @@ listed s b from rooms = go (eqb (listRefusal s b rooms .number) 0) refl
     reply : ListReply
     reply = listReplyOf (walk (panelOf s) b) (written from (length (rooms .out)) (walk (panelOf s) b .walk .out))
 
-    go : (c : Bool) → eqb (r .number) 0 ≡ c → pick c reply (refusedList r) .refusal ≡ 0 → pick c reply (refusedList r) .evaluations ≡ walk (panelOf s) b .walk .evaluations
+    go : (c : Bool) → eqb (r .number) 0 ≡ c → pick c reply (refusedList r) .refusal ≡ 0 → pick c reply (refusedList r) ≡ reply
     go true e h = refl
     go false e h = absurd (eqb-false (r .number) 0 e h)
 
@@ -63,9 +66,12 @@ unrefused s b from rooms = go (eqb (listRefusal s b rooms .number) 0) refl
     go false e h = h
 
 pub lists-the-same : ListsTheSame
-unfolding replyOf search searchFrom searchedAs walked tallyOf walk listRooms listedIn leftIn
+unfolding replyOf search searchFrom searchedAs walked tallyOf walk listReplyOf listRooms listedIn leftIn
 lists-the-same s b xs rooms from lent h k =
+    let e : listAnswer s b from lent .evaluations ≡ walk (panelOf s) b .walk .evaluations = ap (λ (r : ListReply). r .evaluations) (listed s b from lent k) in
     record {
-      many = listed s b from lent k ∙ sym (ap (λ (r : SearchReply). r .evaluations) (searched s b xs rooms h));
+      many = e ∙ sym (ap (λ (r : SearchReply). r .evaluations) (searched s b xs rooms h));
+      numbered = e ∙ walk-tallied (panelOf s) b;
+      wrote = ap (λ (r : ListReply). r .written) (listed s b from lent k);
       words = rw (unrefused s b from lent k);
     }

@@ -97,6 +97,13 @@ pub record Ties (s : List ℕ) (b : SearchBudget) (xs : List Float) (i e : Evalu
   pub scores : Scores s b xs (e .assignment) (e .score)
   pub near : tiedTo (i .score) (b .«tie_width») (e .score) ≡ true
 
+-- "in the order in which they were first handed over": a is handed over before c ever is
+pub record Earlier (out : List Assignment) (a c : Assignment) : Type 0 where
+  pub before : List Assignment
+  pub after : List Assignment
+  pub split : out ≡ before ++ (a ∷ after)
+  pub none : List·Memᴰ c before → ⊥
+
 -- the assignment of an evaluation
 abbrev pub assignmentOf : Evaluated → Assignment
 assignmentOf e = e .assignment

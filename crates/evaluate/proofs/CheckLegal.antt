@@ -47,11 +47,11 @@ else-zero (suc n) m e = let z : suc n ≡ 0 = e in let x : ⊥ = omega arith in 
 
 -- ---- lists
 
-each-append : {A : Type 0} (P : A → Type 0) (l m : List A) → Each P l → Each P m → Each P (l ++ m)
+pub each-append : {A : Type 0} (P : A → Type 0) (l m : List A) → Each P l → Each P m → Each P (l ++ m)
 each-append P [] m h k = k
 each-append P (a ∷ l) m h k = (h .0, each-append P l m (h .1) k)
 
-append-each : {A : Type 0} (P : A → Type 0) (l m : List A) → Each P (l ++ m) → Each P l × Each P m
+pub append-each : {A : Type 0} (P : A → Type 0) (l m : List A) → Each P (l ++ m) → Each P l × Each P m
 append-each P [] m h = (tt, h)
 append-each P (a ∷ l) m h = let (x, y) = append-each P l m (h .1) in ((h .0, x), y)
 
@@ -188,22 +188,23 @@ module _ (p : Panel) where
         let (x, y) = routes-from (suc i) ls rs b (h .1) in
         (ap suc x, zero-at (routeRefusal p l r) i (routesRefusal p (suc i) ls rs) (route-from l r a (h .0)) y)
 
-    flat-filled : (targets : List ℕ) (ns : List Route) → Matched (LegalRoute p) targets ns → Filled (flat ns)
-    flat-filled [] [] h = tt
-    flat-filled [] (n ∷ ns) h = absurd h
-    flat-filled (l ∷ ls) [] h = absurd h
-    flat-filled (l ∷ ls) (n ∷ ns) h = each-append (λ s. s .start < s .end) n (flat ns) (filled-of p n (h .0 .spans)) (flat-filled ls ns (h .1))
+-- the segments of legal routes are not empty
+pub flat-filled : (p : Panel) (targets : List ℕ) (ns : List Route) → Matched (LegalRoute p) targets ns → Filled (flat ns)
+flat-filled p [] [] h = tt
+flat-filled p [] (n ∷ ns) h = absurd h
+flat-filled p (l ∷ ls) [] h = absurd h
+flat-filled p (l ∷ ls) (n ∷ ns) h = each-append (λ s. s .start < s .end) n (flat ns) (filled-of p n (h .0 .spans)) (flat-filled p ls ns (h .1))
 
 -- ---- no two share a base
 
-clear-to : (s : Segment) (l : List Segment) → clear s l ≡ true → Each (Apart s) l
+pub clear-to : (s : Segment) (l : List Segment) → clear s l ≡ true → Each (Apart s) l
 unfolding all
 clear-to s [] e = tt
 clear-to s (t ∷ l) e =
     let (x, y) = both (not (overlap s t)) (clear s l) e in
     (λ h. true≢false (sym (share-overlap s t h) ∙ not-true (overlap s t) x), clear-to s l y)
 
-clear-from : (s : Segment) (l : List Segment) → s .start < s .end → Filled l → Each (Apart s) l → clear s l ≡ true
+pub clear-from : (s : Segment) (l : List Segment) → s .start < s .end → Filled l → Each (Apart s) l → clear s l ≡ true
 unfolding all
 clear-from s [] hs f h = refl
 clear-from s (t ∷ l) hs f h = rw (off (overlap s t) refl) (clear-from s l hs (f .1) (h .1))
@@ -250,7 +251,7 @@ module _ (p : Panel) (rows : Rows p) (a : Assignment) where
   legal-accepted s h =
       let inRoutes = routesRefusal p 0 (pathsAt p (a .family)) (a .routes) in
       let (n, u) = routes-from p rows 0 (pathsAt p (a .family)) (a .routes) s (h .routes) in
-      let off : apart (flat (map normalize (a .routes))) ≡ true = apart-from (flat (map normalize (a .routes))) (flat-filled p rows (pathsAt p (a .family)) (map normalize (a .routes)) (h .routes)) (h .apart) in
+      let off : apart (flat (map normalize (a .routes))) ≡ true = apart-from (flat (map normalize (a .routes))) (flat-filled p (pathsAt p (a .family)) (map normalize (a .routes)) (h .routes)) (h .apart) in
       rw (lt-ltb (a .family) (length (p .families)) (h .family), eq-eqb (length (a .routes)) (length (pathsAt p (a .family))) n, off)
       (zero-at (inRoutes .number) (inRoutes .place) noRefusal u refl)
 

@@ -50,7 +50,7 @@ module _ {A : Type 0} where
   mem-at d (a ∷ l) zero h = List·Memᴰ·head refl
   mem-at d (a ∷ l) (suc i) h = List·Memᴰ·tail (mem-at d l i (omega arith))
 
-  mem-take : (n : ℕ) (x : A) (l : List A) → List·Memᴰ x (take n l) → List·Memᴰ x l
+  pub mem-take : (n : ℕ) (x : A) (l : List A) → List·Memᴰ x (take n l) → List·Memᴰ x l
   mem-take zero x l m = absurd (List·Memᴰ·not-nil m)
   mem-take (suc n) x [] m = absurd (List·Memᴰ·not-nil m)
   mem-take (suc n) x (a ∷ l) m = go (mem-take n x l) (List·Memᴰ·cases-cons m)
@@ -59,7 +59,7 @@ module _ {A : Type 0} where
       go f (inl e) = List·Memᴰ·head e
       go f (inr k) = List·Memᴰ·tail (f k)
 
-  mem-drop : (n : ℕ) (x : A) (l : List A) → List·Memᴰ x (drop n l) → List·Memᴰ x l
+  pub mem-drop : (n : ℕ) (x : A) (l : List A) → List·Memᴰ x (drop n l) → List·Memᴰ x l
   mem-drop zero x l m = m
   mem-drop (suc n) x [] m = absurd (List·Memᴰ·not-nil m)
   mem-drop (suc n) x (a ∷ l) m = List·Memᴰ·tail (mem-drop n x l m)
