@@ -86,7 +86,7 @@ module _ {ws xs ys : List ℕ} {to at left next count place n : ℕ} (p : Puttin
 
 -- ---- the assignment
 
-routes-length : (n : ℕ) (ws : List ℕ) → length (routesOf n ws) ≡ n
+pub routes-length : (n : ℕ) (ws : List ℕ) → length (routesOf n ws) ≡ n
 unfolding routesOf
 routes-length zero ws = refl
 routes-length (suc n) ws = ap suc (routes-length n _)
