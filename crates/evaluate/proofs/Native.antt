@@ -178,7 +178,7 @@ opened-none : (s : List ℕ) → opened s ≡ Refused 0 → ⊥
 unfolding opened
 opened-none s = unless-none (sound1 s) 0 _ (unless-none (sound2 (headerOf s)) 1 _ (unless-none (sound3 (headerOf s) (length s)) 2 _ (good-none (headerOf s))))
 
-checked-none : (s : List ℕ) → checked s ≡ Refused 0 → ⊥
+pub checked-none : (s : List ℕ) → checked s ≡ Refused 0 → ⊥
 unfolding checked
 checked-none s e = go (opened s) refl e
   where

@@ -11,6 +11,9 @@ pub struct Segment {
 }
 
 impl Segment {
+    // How many words a segment has.
+    pub const WORDS: usize = 4;
+
     // Where a route comes onto the segment.
     pub fn entry(self) -> u64
         ensures { λ r. ⌜ r ≡ entry self ⌝ }

@@ -1,0 +1,5 @@
+pub mod Scan
+pub mod Reading
+pub mod Normal
+pub mod Writing
+pub mod Loops
