@@ -2,6 +2,8 @@
 ghost use mathlib.Core.Path.{_≡_};
 ghost use Rattle.graph.specs.Check.{checked};
 ghost use Rattle.graph.specs.Lookups.{portAnswer, bucketAnswer};
+ghost use lib.ListN.{length};
+ghost use Rattle.evaluate.specs.Check.{checkAnswer, checkOut};
 ghost use Rattle.panel_routes.specs.Replies.{panelReply, portReply, bucketReply};
 
 // Refusal 0: none. Fields that an answer does not use are 0.
@@ -121,4 +123,17 @@ pub extern "C" fn panel_routes_hub_bucket(image: &[u8], word: &[u8]) -> BucketRe
             hi: b.hi as u64,
         },
     }
+}
+
+// On acceptance out begins with the normal form, whose length is told; on a refusal it stays.
+#[no_mangle]
+pub extern "C" fn panel_routes_check_assignment(
+    image: &[u8],
+    words: &[u64],
+    out: &mut [u64],
+) -> evaluate::AssignmentReply
+    ensures { λ r. ⌜ r ≡ checkAnswer (now (image .entry)) (now (words .entry)) (length (now (out .entry))) ⌝ }
+    ensures { λ r. ⌜ now (out .exit) ≡ checkOut (now (image .entry)) (now (words .entry)) (now (out .entry)) ⌝ }
+{
+    assignment::check_assignment(image, words, out)
 }

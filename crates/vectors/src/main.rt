@@ -180,11 +180,108 @@ fn is_same(h: Head, body: &[u8]) -> bool {
     answered(h.kind, &body[from..end], body, arguments, at)
 }
 
+// What stands in out before the check.
+const MARK: u64 = 0xa5a5_a5a5_a5a5_a5a5;
+
+// The 64 words of the arguments from the third on.
+fn given(body: &[u8], arguments: usize) -> [u64; 64] {
+    let mut w = [0u64; 64];
+    let mut i = 0;
+    while i < 64 {
+        w[i] = next(body, arguments, 2 + i);
+        i += 1;
+    }
+    w
+}
+
+// The check on the first n words and the first words of room; more than there are is no call.
+fn check_in(
+    image: &[u8],
+    words: &[u64],
+    n: usize,
+    out: &mut [u64],
+    room: usize,
+) -> evaluate::AssignmentReply {
+    if n <= words.len() {
+        if room <= out.len() {
+            let from: usize = 0;
+            return panel_routes::panel_routes_check_assignment(
+                image,
+                &words[from..n],
+                &mut out[from..room],
+            );
+        }
+    }
+    evaluate::AssignmentReply {
+        refusal: 0,
+        place: 0,
+        words: 0,
+    }
+}
+
+fn check_arrays(
+    image: &[u8],
+    words: &[u64; 64],
+    n: usize,
+    out: &mut [u64; 64],
+    room: usize,
+) -> evaluate::AssignmentReply {
+    check_in(image, words, n, out, room)
+}
+
+// What a word of out is afterwards: the normal form's, or as it was.
+fn expected_out(body: &[u8], at: usize, words: u64, i: usize) -> u64 {
+    if 64 <= i {
+        return MARK;
+    }
+    if (i as u64) < words {
+        next(body, at, 3 + i)
+    } else {
+        MARK
+    }
+}
+
+fn is_out(out: [u64; 64], body: &[u8], at: usize, words: u64) -> bool {
+    let mut i = 0;
+    while i < 64 {
+        let w = out[i];
+        if w == expected_out(body, at, words, i) {
+            i += 1;
+        } else {
+            return false;
+        }
+    }
+    true
+}
+
+fn is_check(image: &[u8], body: &[u8], arguments: usize, at: usize) -> bool {
+    let room = next(body, arguments, 0);
+    let n = next(body, arguments, 1);
+    if 64 < room {
+        return false;
+    }
+    if 64 < n {
+        return false;
+    }
+    let words = given(body, arguments);
+    let mut out = [MARK; 64];
+    let r = check_arrays(image, &words, n as usize, &mut out, room as usize);
+    if r.refusal == next(body, at, 0) {
+        if r.place == next(body, at, 1) {
+            if r.words == next(body, at, 2) {
+                return is_out(out, body, at, r.words);
+            }
+        }
+    }
+    false
+}
+
 fn answered(kind: u64, image: &[u8], body: &[u8], arguments: usize, at: usize) -> bool {
     match kind {
         1 => is_panel(image, body, at),
         2 => is_port(image, body, arguments, at),
         3 => is_bucket_of(image, body, arguments, at),
+        4 => is_check(image, body, arguments, at),
         _ => false,
     }
 }
@@ -194,6 +291,7 @@ struct Sheet {
     panel: Score,
     port: Score,
     bucket: Score,
+    check: Score,
     unknown: Score,
 }
 
@@ -209,6 +307,9 @@ impl Sheet {
             }
             3 => {
                 s.bucket = s.bucket.counted(is_same);
+            }
+            4 => {
+                s.check = s.check.counted(is_same);
             }
             _ => {
                 s.unknown = s.unknown.counted(is_same);
@@ -277,6 +378,7 @@ fn main() {
         panel: none,
         port: none,
         bucket: none,
+        check: none,
         unknown: none,
     };
     let mut turns: u64 = 1000000;
@@ -295,5 +397,6 @@ fn main() {
     print(b"panel ", sheet.panel);
     print(b"port ", sheet.port);
     print(b"bucket ", sheet.bucket);
+    print(b"check ", sheet.check);
     print(b"unknown ", sheet.unknown);
 }
