@@ -1,20 +1,20 @@
 -- The unbudgeted walk of panel E, and P7 in the words of "budgets suffice": four evaluations do, three do not.
-use Prim.Native.Nat.{ℕ, zero, suc, _+_, _*_, _-_, _/_, _≤_, _<_, min, max}
+use Prim.Native.Nat.{ℕ, _-_, _<_}
 use native.Mathlib.Omega.{arith}
 use native.Mathlib.Bridge.{le-by-compare, IsLe}
-use mathlib.Core.Path.{_≡_, refl}
+use mathlib.Core.Path.{refl}
 use Rattle.ground.specs.Lists.{each, split, sum, all, count, numbersFrom}
 use Rattle.storage.specs.Bytes.{little, number}
 use Rattle.storage.specs.Records.{portOf}
 use Rattle.storage.specs.Orders.{wordOrder, bucketOf, wordBelow, wordUpTo}
 use Rattle.image.specs.Header.{headerOf}
 use Rattle.image.specs.Image.{entryOf, entries, counts, pathCounts, paths, lanePorts, hub, families}
-use Rattle.image.specs.Panel.{Panel, zipLanes, panelBy, panelOf}
+use Rattle.image.specs.Panel.{zipLanes, panelBy, panelOf}
 use Rattle.graph.specs.PanelE.{panelE}
 use Rattle.search.specs.declared.SearchBudget.{SearchBudget}
 use Rattle.search.specs.Budget.{zeroScore}
 use Rattle.search.specs.Walk.{enter, terminalTask, memberTask, portUnit, hubUnit, unitOf}
-use Rattle.search.specs.Run.{Walk, Phase, ended, exhausted, units, nativesOf, outset, deepest, Unbudgeted, Suffices}
+use Rattle.search.specs.Run.{units, nativesOf, outset, deepest, Unbudgeted, Suffices}
 
 -- 20 units after seeding
 unfoldable pub unbudgeted-E : Unbudgeted (panelOf panelE)
