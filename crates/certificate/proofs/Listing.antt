@@ -1,6 +1,5 @@
 -- The listing makes the search's evaluations.
-use Prim.Native.Nat.{ℕ, zero, suc}
-use native.Mathlib.Omega.{arith}
+use Prim.Native.Nat.{ℕ}
 use mathlib.Core.Path.{_≡_, refl, sym, ap, _∙_}
 use mathlib.Core.Bool.{Bool, true, false}
 use mathlib.Core.List.{List}
@@ -14,7 +13,7 @@ use Rattle.evaluate.specs.declared.Refusal.{Refusal}
 use Rattle.search.specs.declared.SearchBudget.{SearchBudget}
 use Rattle.search.specs.declared.SearchReply.{SearchReply}
 use Rattle.search.specs.declared.ListReply.{ListReply}
-use Rattle.search.specs.Run.{Walk, Walked, walk}
+use Rattle.search.specs.Run.{walk}
 use Rattle.search.specs.Counters.{tallyOf}
 use Rattle.search.specs.Search.{search, searchFrom, searchedAs, walked}
 use Rattle.search.specs.Rooms.{leftIn}

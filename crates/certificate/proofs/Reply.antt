@@ -1,19 +1,17 @@
 -- What an admitted search answers, in terms of its walk: it is not refused, and its status says how the walk ended.
 use Prim.Native.Nat.{ℕ, suc, _<_}
 use native.Mathlib.Omega.{arith}
-use mathlib.Core.Path.{_≡_, refl, sym, ap, _∙_, subst}
+use mathlib.Core.Path.{_≡_, refl, sym, ap, _∙_}
 use mathlib.Core.Logic.{_⊎_, inl, inr, _↔_}
 use mathlib.Core.Bool.{Bool, true, false, _&&_}
 use mathlib.Core.List.{List, [], _∷_, map}
-use lib.Dec.{leb, ltb, eqb}
+use lib.Dec.{ltb}
 use lib.ListN.{length, take}
 use lib.Ieee.{Float}
 use lib.Ieee.Scale.{finite}
 use borrow.Author.Tests.{ltb-true}
-use Rattle.ground.specs.Lists.{pick}
 use Rattle.ground.proofs.ListLaws.{both}
-use Rattle.image.specs.Panel.{Panel, panelOf}
-use Rattle.evaluate.specs.declared.Refusal.{Refusal}
+use Rattle.image.specs.Panel.{panelOf}
 use Rattle.evaluate.specs.Properties.{Each, Matched}
 use Rattle.evaluate.specs.Refusals.{noRefusal, unless}
 use Rattle.evaluate.specs.Segments.{Assignment}
@@ -21,10 +19,10 @@ use Rattle.search.specs.declared.SearchBudget.{SearchBudget}
 use Rattle.search.specs.declared.SearchReply.{SearchReply}
 use Rattle.search.specs.declared.Status.the-variants.{Certified, SupportIncomplete}
 use Rattle.search.specs.Budget.{widthOk, budgetOk, budgetInBounds, budgetRefusal}
-use Rattle.search.specs.Run.{Walk, Walked, Ending, exhausted, onWork, onEvaluation, onFrontier, walk}
+use Rattle.search.specs.Run.{Ending, exhausted, onWork, onEvaluation, onFrontier, walk}
 use Rattle.search.specs.Counters.{stopOf, statusOf, statusNumber}
-use Rattle.search.specs.Keep.{Kept, Evaluated, evaluated, scoresRefusal}
-use Rattle.search.specs.Search.{fresh, walked, evaluationRefusal, searchedAs, searchFrom, search}
+use Rattle.search.specs.Keep.{evaluated, scoresRefusal}
+use Rattle.search.specs.Search.{walked, evaluationRefusal, searchedAs, searchFrom, search}
 use Rattle.search.specs.Answers.{Rooms, searchRefusal, replyOf, searchAnswer}
 use Rattle.certificate.specs.Terms.{FiniteScore, Admitted, Exhausted, keptBy, evaluations, handedOver, assignmentOf}
 

@@ -2,7 +2,7 @@
 use Prim.Native.Nat.{ℕ, _+_, _<_}
 use native.Mathlib.Omega.{arith}
 use mathlib.Core.Path.{_≡_, refl, sym, ap, _∙_, subst}
-use mathlib.Core.Logic.{_⊎_, inl, inr, ⊎-elim, _↔_}
+use mathlib.Core.Logic.{_⊎_, ⊎-elim, _↔_}
 use mathlib.Core.Bool.{Bool, true, false, not, true≢false}
 use mathlib.Core.List.{List, [], _∷_, _++_, map, head-eq-of-cons-eq, List·Memᴰ, List·Memᴰ·not-nil, Memᴰ·cast, Memᴰ·append-right}
 use lib.Dec.{T}
@@ -10,16 +10,14 @@ use lib.ListN.{length, length-append, length-map}
 use lib.Ieee as Ieee
 use lib.Ieee.{Float}
 use lib.Ieee.Scale.{finite}
-use Rattle.ground.specs.Lists.{keep, numbersFrom}
-use Rattle.image.specs.Panel.{Panel, panelOf}
+use Rattle.ground.specs.Lists.{keep}
+use Rattle.image.specs.Panel.{panelOf}
 use Rattle.evaluate.specs.Properties.{Each, Pairs}
 use Rattle.evaluate.specs.Segments.{Assignment}
 use Rattle.evaluate.specs.Legal.{Legal}
 use Rattle.search.specs.declared.SearchBudget.{SearchBudget}
-use Rattle.search.specs.declared.Status.the-variants.{Certified}
 use Rattle.search.specs.Run.{nativesOf, walk}
-use Rattle.search.specs.Counters.{statusNumber}
-use Rattle.search.specs.Keep.{Kept, nothing, Evaluated, scoreOf, sameEvaluated, tiedTo, tiesTo, keepAll, evaluated}
+use Rattle.search.specs.Keep.{Kept, nothing, Evaluated, scoreOf, sameEvaluated, tiedTo, tiesTo, keepAll}
 use Rattle.search.specs.Search.{walked, keptOf, searchedAs, searchFrom, search}
 use Rattle.search.specs.Answers.{Rooms, searchAnswer}
 use Rattle.enumeration.proofs.Lists.{each-mem, each-map, mem-map, mem-map-in}

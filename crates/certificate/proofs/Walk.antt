@@ -2,25 +2,21 @@
 -- per family and after them each legal assignment once.
 use Prim.Native.Nat.{ℕ, zero, suc, _+_, _≤_, _<_}
 use native.Mathlib.Omega.{arith}
-use mathlib.Core.Path.{_≡_, refl, sym, ap, _∙_, subst}
-use mathlib.Core.Logic.{_⊎_, inl, inr, ⊎-elim, _↔_}
-use mathlib.Core.List.{List, [], _∷_, _++_, List·Memᴰ, List·Memᴰ·not-nil, List·Memᴰ·cases-cons, List·Memᴰ·append-cases}
+use mathlib.Core.Path.{sym, ap, _∙_, subst}
+use mathlib.Core.Logic.{_⊎_, ⊎-elim}
+use mathlib.Core.List.{List, [], _∷_, List·Memᴰ, List·Memᴰ·not-nil, List·Memᴰ·cases-cons, List·Memᴰ·append-cases}
 use lib.ListN.{length}
-use lib.Ieee.{Float}
 use Rattle.ground.specs.Lists.{numbersFrom}
-use Rattle.image.specs.Panel.{Panel, panelOf}
-use Rattle.evaluate.specs.Properties.{Each, Pairs, Neighbours}
+use Rattle.image.specs.Panel.{panelOf}
+use Rattle.evaluate.specs.Properties.{Pairs, Neighbours}
 use Rattle.evaluate.specs.Segments.{Assignment, nativeOf}
 use Rattle.evaluate.specs.Legal.{Legal}
 use Rattle.evaluate.proofs.Native.{native-legal}
-use Rattle.search.specs.declared.SearchBudget.{SearchBudget}
-use Rattle.search.specs.Run.{Walk, Walked, exhausted, unlimited, walk, nativesOf, outset, Unbudgeted, Suffices}
-use Rattle.search.specs.Answers.{Rooms, searchAnswer}
+use Rattle.search.specs.Run.{Walk, unlimited, walk, nativesOf, outset}
 use Rattle.enumeration.proofs.Lists.{mem-map}
-use Rattle.enumeration.proofs.Whole.{Ends}
 use Rattle.enumeration.proofs.Accepted.{accepted-ends}
 use Rattle.enumeration.proofs.Suffice.{one-end, ends-iff, ends-as}
-use Rattle.certificate.specs.Terms.{PanelAccepted, Admitted, Exhausted, NativesThenLegal, handedOver}
+use Rattle.certificate.specs.Terms.{PanelAccepted, NativesThenLegal}
 use Rattle.certificate.specs.Demand3.{WalkEnds, WholeWalk, ExhaustedWhenEnough, AllEvaluated}
 use Rattle.certificate.proofs.Reply.{some-frontier, exhausted-iff}
 

@@ -3,9 +3,9 @@ use Prim.Native.Nat.{ℕ, _≤_, _<_}
 use native.Mathlib.Omega.{arith}
 use native.Mathlib.Decide.{decLt}
 use mathlib.Core.Path.{_≡_, refl, sym, _∙_, ap, subst}
-use mathlib.Core.Bool.{Bool, true, false, _&&_}
+use mathlib.Core.Bool.{true}
 use mathlib.Core.List.{List, []}
-use lib.Dec.{leb, ltb, eqb}
+use lib.Dec.{leb, eqb}
 use lib.ListN.{length, take, getD, List·getD-eq-default}
 use borrow.Author.Tests.{ltb-true, lt-ltb, leb-true}
 use Rattle.ground.specs.Lists.{sum, all, within}
@@ -16,15 +16,15 @@ use Rattle.storage.proofs.OrderLaws.{record-chain}
 use Rattle.image.specs.declared.Header.{Header}
 use Rattle.image.specs.declared.Family.{Family}
 use Rattle.image.specs.Image.{pathCounts, pathsOf}
-use Rattle.image.specs.Panel.{Panel, PanelLane, panelOf, laneAt, noLane, pathsAt}
+use Rattle.image.specs.Panel.{PanelLane, panelOf, laneAt, noLane, pathsAt}
 use Rattle.image.proofs.Laws.{panel-lanes, panel-families, families-length, path-counts-length, family-length, groups-of}
 use Rattle.families.specs.Families.{countOk, sound5a, sound5b, sound5}
 use Rattle.panel.specs.Inner.{Accepted}
 use Rattle.graph.specs.Check.{panelRefusal}
 use Rattle.graph.proofs.PanelLaws.{lane-source, lane-ends, lane-row-rises, hub-rises, hub-in-lane, lane-in-hub}
 use Rattle.evaluate.specs.Properties.{Pairs}
-use Rattle.evaluate.proofs.Native.{Taken, taken}
-use Rattle.search.specs.Run.{Walk, untouched, seededWith, nativesOf, outset}
+use Rattle.evaluate.proofs.Native.{taken}
+use Rattle.search.specs.Run.{untouched, seededWith, nativesOf, outset}
 use Rattle.enumeration.proofs.Lists.{rising-all}
 use Rattle.enumeration.proofs.Ports.{Sound}
 use Rattle.enumeration.proofs.Whole.{Ends, walk-ends}

@@ -1,20 +1,18 @@
 -- Budgets that suffice, and only these, let the walk end by itself; then it is the unbudgeted walk.
-use Prim.Native.Nat.{ℕ, zero, suc, _+_, _-_, _≤_, _<_, max}
+use Prim.Native.Nat.{ℕ, zero, suc, _+_, _-_, _≤_, _<_}
 use native.Mathlib.Omega.{arith}
-use mathlib.Core.Path.{_≡_, refl, sym, _∙_, ap, subst}
-use mathlib.Core.Logic.{_⊎_, inl, inr, _↔_}
-use mathlib.Core.List.{List, [], _∷_, _++_, map}
+use mathlib.Core.Path.{_≡_, refl, sym, _∙_, ap}
+use mathlib.Core.Logic.{_⊎_, inl, inr}
+use mathlib.Core.List.{List, [], _∷_}
 use mathlib.Core.Bool.{Bool, true, false}
-use lib.Dec.{leb, ltb, eqb}
-use lib.ListN.{length, length-map}
-use borrow.Author.Tests.{leb-true, leb-false, lt-leb, eqb-true, eq-eqb, lt-ltb, ltb-true, ltb-false}
-use Rattle.ground.specs.Lists.{pick, numbersFrom}
-use Rattle.ground.proofs.ListLaws.{numbers-length}
+use lib.Dec.{leb, ltb}
+use lib.ListN.{length}
+use borrow.Author.Tests.{leb-false, lt-leb}
+use Rattle.ground.specs.Lists.{pick}
 use Rattle.image.specs.Panel.{Panel, pathsAt}
-use Rattle.evaluate.specs.Segments.{Route, Assignment, nativeOf}
 use Rattle.search.specs.declared.SearchBudget.{SearchBudget}
-use Rattle.search.specs.Walk.{Task, pass, down, give, Place, Frame, Act, leave, doing, enter, unitOf, takesMember}
-use Rattle.search.specs.Run.{Walk, Walked, Ending, exhausted, onWork, onEvaluation, onFrontier, Phase, going, ended, Limits, limitsOf, unlimited, root, stacked, begin, spend, handed, doneWith, left, afterAct, onTop, unit, units, stopped, run, seeds, seededWith, seeded, resumed, short, afterSeeding, walkFrom, untouched, walk, nativesOf, outset, Unbudgeted, framesOf, deepest, Suffices}
+use Rattle.search.specs.Walk.{pass, down, give, Frame, Act, leave, doing, enter, unitOf, takesMember}
+use Rattle.search.specs.Run.{Walk, Ending, exhausted, onWork, onEvaluation, onFrontier, Phase, going, ended, Limits, limitsOf, unlimited, root, stacked, begin, spend, handed, doneWith, afterAct, onTop, unit, units, short, walk, framesOf, deepest}
 use Rattle.enumeration.proofs.Whole.{ended-stays}
 
 abbrev pub walkIn : Phase → Walk

@@ -17,14 +17,14 @@ use Rattle.storage.specs.declared.Order.the-variants.{Less, Equal, Greater}
 use Rattle.storage.specs.Records.{sameTurn, cutAs, cutOf}
 use Rattle.storage.specs.Orders.{wordOrder, wordBelow, wordUpTo, bucketOf, isLess, isGreater, recordLt}
 use Rattle.storage.proofs.OrderLaws.{word-same, word-self, below-before, up-to-before}
-use Rattle.image.specs.Panel.{Panel, PanelLane, laneAt}
-use Rattle.graph.specs.Lookups.{PortAt, bucketLo, bucketHi}
+use Rattle.image.specs.Panel.{Panel, laneAt}
+use Rattle.graph.specs.Lookups.{bucketLo, bucketHi}
 use Rattle.evaluate.specs.declared.Segment.{Segment}
 use Rattle.evaluate.specs.Properties.{Matched}
 use Rattle.evaluate.specs.Segments.{Route, entry, exit, flat, clear, SoundSpan, joinable, Unjoined}
 use Rattle.evaluate.specs.Legal.{Leaves, Joint}
 use Rattle.evaluate.proofs.NormalForm.{same-turn, joins, Joins}
-use Rattle.search.specs.Walk.{Task, pass, down, give, Place, Doing, onPath, pieceTo, reach, switched, closes, closed, begins, samePlace, terminalTask, memberTask, portsHere, firstPort}
+use Rattle.search.specs.Walk.{pass, down, give, Place, Doing, onPath, pieceTo, reach, switched, closes, closed, begins, samePlace, terminalTask, memberTask, portsHere, firstPort}
 use Rattle.enumeration.proofs.Lists.{mem-drop-take, mem-reverse-in, past-take, past-drop, in-slice, in-drop, in-take, Falling, falling-of}
 use Rattle.enumeration.proofs.Tree.{Gives, here, below}
 use Rattle.enumeration.proofs.Sim.{portsIn, portsLeft, over, tasksOf}

@@ -1,13 +1,13 @@
 -- The walk's own words for a legal assignment, chains and clearness, are those of Legal.
 use Prim.Native.Nat.{ℕ, _<_}
-use mathlib.Core.Path.{_≡_, refl}
+use mathlib.Core.Path.{refl}
 use mathlib.Core.Logic.{_↔_}
-use mathlib.Core.Bool.{Bool, true, false}
+use mathlib.Core.Bool.{Bool, false}
 use mathlib.Core.List.{List, [], _∷_, _++_}
 use Rattle.image.specs.Panel.{Panel}
 use Rattle.evaluate.specs.declared.Segment.{Segment}
 use Rattle.evaluate.specs.Properties.{Each, Pairs, Neighbours, First, Last, Matched}
-use Rattle.evaluate.specs.Segments.{Route, entry, Share, SoundSpan, Unjoined}
+use Rattle.evaluate.specs.Segments.{Route, entry, SoundSpan, Unjoined}
 use Rattle.evaluate.specs.Legal.{Enters, Leaves, Joint, LegalRoute, Apart}
 use Rattle.evaluate.proofs.NormalForm.{Filled}
 use Rattle.evaluate.proofs.CheckLegal.{each-append, append-each, clear-to, clear-from}

@@ -1,12 +1,12 @@
 -- The walk of a family hands over each legal assignment once.
-use Prim.Native.Nat.{ℕ, suc, _+_, _-_, _*_, _/_, _≤_, _<_}
+use Prim.Native.Nat.{ℕ, suc, _+_, _-_, _*_, _<_}
 use native.Mathlib.Omega.{arith}
 use mathlib.Core.Path.{_≡_, refl, sym, _∙_, ap, subst}
 use mathlib.Core.Logic.{_⊎_, inl, inr, _↔_}
 use mathlib.Core.List.{List, [], _∷_, _++_, map, append-assoc, append-cancel-left, head-eq-of-cons-eq, tail-eq-of-cons-eq, nil≢cons, List·Memᴰ, List·Memᴰ·head, List·Memᴰ·tail, List·Memᴰ·not-nil, List·Memᴰ·append-cases, List·Memᴰ·eq-of-singleton, Memᴰ·append-left}
-use mathlib.Core.Bool.{Bool, true, false, not, _&&_, _||_, true≢false}
+use mathlib.Core.Bool.{Bool, true, false, not, _||_, true≢false}
 use lib.Dec.{ltb, eqb}
-use lib.ListN.{length, take, drop, getD}
+use lib.ListN.{length, take, getD}
 use lib.Seq.{append-snoc}
 use borrow.Author.Tests.{eqb-false, ltb-true}
 use Rattle.ground.specs.Lists.{pick}
@@ -15,21 +15,21 @@ use Rattle.storage.specs.declared.Port.{Port}
 use Rattle.storage.specs.Records.{sameTurn, cutAs, cutOf}
 use Rattle.storage.specs.Orders.{placeOf, placeLt, recordLt, turn}
 use Rattle.storage.proofs.OrderLaws.{record-self}
-use Rattle.image.specs.Panel.{Panel, PanelLane, laneAt}
+use Rattle.image.specs.Panel.{Panel, laneAt}
 use Rattle.graph.specs.Lookups.{bucketLo, bucketHi}
 use Rattle.evaluate.specs.declared.Segment.{Segment}
-use Rattle.evaluate.specs.Properties.{Each, Pairs, Matched}
+use Rattle.evaluate.specs.Properties.{Pairs, Matched}
 use Rattle.evaluate.specs.Segments.{Route, entry, exit, flat, clear}
 use Rattle.evaluate.specs.Legal as Legality
 use Rattle.evaluate.specs.Legal.{LegalRoute}
 use Rattle.evaluate.proofs.CheckLegal.{flat-filled}
 use Rattle.search.specs.Walk.{Task, pass, down, give, Place, Doing, onPath, pieceTo, reach, switched, closes, closed, begins, samePlace, terminalTask, memberTask, portsHere, firstPort, enter}
 use Rattle.enumeration.proofs.Lists.{mem-map, each-mem, mem-each, pairs-map, pairs-drop, pairs-take, pairs-reverse}
-use Rattle.enumeration.proofs.Tree.{Gives, Yields, Apart, NoDup, enum, enum-once, enum-iff}
+use Rattle.enumeration.proofs.Tree.{Yields, Apart, NoDup, enum, enum-once, enum-iff}
 use Rattle.enumeration.proofs.Sim.{portsIn, portsLeft, hubTasks, portTasks, over, tasksOf}
-use Rattle.enumeration.proofs.Stack.{Stack, on, steps, walked}
+use Rattle.enumeration.proofs.Stack.{on, steps, walked}
 use Rattle.enumeration.proofs.Ports.{Sound, Switch, bucket, in-over, in-tasks, Past, coming, cut-in, μ, falls}
-use Rattle.enumeration.proofs.Given.{Begins, Chain, RouteOf, Clear, Completes, Fine, gives-legal, gives-iff, terminal-fine, switch-fine, piece-exit, bucket-word}
+use Rattle.enumeration.proofs.Given.{Begins, Chain, RouteOf, Completes, Fine, gives-legal, gives-iff, terminal-fine, switch-fine, piece-exit, bucket-word}
 use Rattle.enumeration.proofs.Legal.{route-iff, matched-map, clear-iff}
 
 -- ---- records that differ

@@ -14,7 +14,7 @@ use Rattle.storage.specs.Records.{noPort, sameTurn}
 use Rattle.storage.specs.Orders.{wordUpTo, bucketOf}
 use Rattle.image.specs.Panel.{Panel}
 use Rattle.graph.specs.Lookups.{bucketLo, bucketHi}
-use Rattle.search.specs.Walk.{Task, pass, down, give, Place, Frame, Doing, Act, leave, doing, enter, unitOf, hubUnit, portUnit, terminalTask, memberTask, portsHere, firstPort, outgoing, behind, onward, hubOpen, nextPort, spent, opening, moved}
+use Rattle.search.specs.Walk.{pass, Place, Frame, Doing, Act, leave, doing, enter, unitOf, hubUnit, portUnit, terminalTask, memberTask, portsHere, firstPort, outgoing, behind, onward, nextPort, spent, opening}
 
 -- the ports still to come, in the order of the walk
 abbrev pub portsIn : List Port → Bool → ℕ → List Port

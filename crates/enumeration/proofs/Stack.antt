@@ -1,5 +1,5 @@
 -- The unbudgeted walk of one family hands over what the enumerator says.
-use Prim.Native.Nat.{ℕ, zero, suc, _≤_, _<_}
+use Prim.Native.Nat.{ℕ, zero, suc, _<_}
 use native.Mathlib.Omega.{arith}
 use mathlib.Core.Path.{_≡_, refl, _∙_, ap}
 use mathlib.Core.List.{List, [], _∷_, _++_, map, List·Memᴰ, cons≢nil}
@@ -7,7 +7,7 @@ use mathlib.Core.Bool.{Bool, true, false}
 use lib.ListN.{length}
 use Rattle.image.specs.Panel.{Panel}
 use Rattle.evaluate.specs.Segments.{Route}
-use Rattle.search.specs.Walk.{Task, pass, down, give, Place, Frame, Doing, Act, leave, doing, enter, unitOf, firstPort, portsHere}
+use Rattle.search.specs.Walk.{pass, down, give, Place, Frame, Doing, Act, leave, doing, enter, unitOf, firstPort, portsHere}
 use Rattle.enumeration.proofs.Tree.{State, at, one, iter, enum, run-node}
 use Rattle.enumeration.proofs.Sim.{tasksOf, remaining, Good, Does, NextIn, unit-does, enter-tasks, count-le}
 

@@ -6,7 +6,7 @@ use mathlib.Core.Path.{_≡_, refl, sym, _∙_, ap, subst}
 use mathlib.Core.Logic.{_↔_}
 use mathlib.Core.List.{List, [], _∷_, map}
 use mathlib.Core.Bool.{Bool, true, false}
-use lib.Dec.{leb, ltb, eqb}
+use lib.Dec.{leb, eqb}
 use lib.ListN.{length, length-map}
 use borrow.Author.Tests.{eqb-true, eq-eqb, lt-ltb}
 use Rattle.ground.specs.Lists.{pick, numbersFrom}
@@ -14,9 +14,9 @@ use Rattle.ground.proofs.ListLaws.{numbers-length}
 use Rattle.image.specs.Panel.{Panel}
 use Rattle.evaluate.specs.Segments.{Assignment, nativeOf}
 use Rattle.search.specs.declared.SearchBudget.{SearchBudget}
-use Rattle.search.specs.Run.{Walk, Walked, Ending, exhausted, onWork, onEvaluation, onFrontier, Phase, going, ended, Limits, limitsOf, unlimited, root, stacked, begin, units, stopped, run, seeds, seededWith, seeded, short, afterSeeding, walkFrom, untouched, walk, nativesOf, outset, Unbudgeted, deepest, Suffices}
+use Rattle.search.specs.Run.{Walk, Walked, Ending, exhausted, onWork, onEvaluation, Phase, going, ended, Limits, limitsOf, unlimited, root, stacked, units, stopped, run, seeds, seededWith, seeded, short, afterSeeding, walkFrom, untouched, walk, nativesOf, outset, Unbudgeted, deepest, Suffices}
 use Rattle.enumeration.proofs.Whole.{ended-stays, units-add}
-use Rattle.enumeration.proofs.Budgets.{Live, walkIn, Begun, begun, grows, enough, Kept, honest}
+use Rattle.enumeration.proofs.Budgets.{Live, walkIn, grows, enough, Kept, honest}
 
 -- ---- seeding
 

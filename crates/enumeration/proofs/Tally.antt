@@ -1,17 +1,16 @@
 -- The walk counts what it hands over: its evaluations are as many as its assignments.
-use Prim.Native.Nat.{ℕ, zero, suc, _+_, _-_}
+use Prim.Native.Nat.{ℕ, zero, suc, _-_}
 use native.Mathlib.Omega.{arith}
-use mathlib.Core.Path.{_≡_, refl, sym, _∙_, ap}
+use mathlib.Core.Path.{_≡_}
 use mathlib.Core.Bool.{Bool, true, false}
-use mathlib.Core.List.{List, [], _∷_, _++_}
-use lib.Dec.{leb, ltb, eqb}
+use mathlib.Core.List.{List, [], _∷_}
+use lib.Dec.{ltb, eqb}
 use lib.ListN.{length, length-append}
 use Rattle.ground.specs.Lists.{pick}
 use Rattle.image.specs.Panel.{Panel, pathsAt}
-use Rattle.evaluate.specs.Segments.{Route, Assignment}
 use Rattle.search.specs.declared.SearchBudget.{SearchBudget}
-use Rattle.search.specs.Walk.{Task, pass, down, give, Frame, Act, leave, doing, enter, unitOf, takesMember}
-use Rattle.search.specs.Run.{Walk, Walked, Ending, exhausted, onEvaluation, onFrontier, Phase, going, ended, Limits, limitsOf, root, stacked, begin, spend, doneWith, afterAct, onTop, unit, units, stopped, run, seeds, seededWith, seeded, short, afterSeeding, walkFrom, untouched, walk}
+use Rattle.search.specs.Walk.{pass, down, give, Frame, Act, leave, doing, enter, unitOf, takesMember}
+use Rattle.search.specs.Run.{Walk, exhausted, onEvaluation, onFrontier, Phase, going, ended, Limits, limitsOf, root, stacked, begin, spend, doneWith, afterAct, onTop, unit, units, stopped, run, seeds, seededWith, seeded, short, afterSeeding, walkFrom, untouched, walk}
 use Rattle.enumeration.proofs.Budgets.{walkIn}
 
 abbrev Tallied : Walk → Type 0

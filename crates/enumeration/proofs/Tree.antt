@@ -1,10 +1,10 @@
 -- A depth-first walk with a stack, and what it hands over: a node is a list of tasks, and a unit does the first task of the top list.
-use Prim.Native.Nat.{ℕ, zero, suc, _+_, _≤_, _<_}
+use Prim.Native.Nat.{ℕ, zero, suc, _+_, _<_}
 use native.Mathlib.Nat.{not-suc-le-zero, zero-add, suc-add}
 use native.Mathlib.Omega.{arith}
-use mathlib.Core.Path.{_≡_, refl, sym, _∙_, ap, subst}
+use mathlib.Core.Path.{_≡_, refl, _∙_, ap, subst}
 use lib.Seq.{append-snoc}
-use Rattle.evaluate.specs.Properties.{Each, Pairs}
+use Rattle.evaluate.specs.Properties.{Pairs}
 use Rattle.search.specs.Walk.{Task, pass, down, give}
 use Rattle.enumeration.proofs.Lists.{pairs-append, mem-each}
 use mathlib.Core.Logic.{_⊎_, inl, inr, _↔_}

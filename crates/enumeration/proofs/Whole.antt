@@ -6,7 +6,7 @@ use native.Mathlib.Decide.{decLt}
 use mathlib.Core.Path.{_≡_, refl, sym, _∙_, ap, subst}
 use mathlib.Core.Logic.{_⊎_, inl, inr, _↔_}
 use mathlib.Core.List.{List, [], _∷_, _++_, map, append-assoc, append-nil, List·Memᴰ, List·Memᴰ·not-nil, List·Memᴰ·append-cases, Memᴰ·append-left, Memᴰ·append-right, Memᴰ·cast}
-use mathlib.Core.Bool.{Bool, true, false}
+use mathlib.Core.Bool.{false}
 use lib.Dec.{ltb}
 use lib.ListN.{length}
 use borrow.Author.Tests.{lt-ltb, le-ltb}
@@ -15,9 +15,9 @@ use Rattle.image.specs.Panel.{Panel, pathsAt}
 use Rattle.evaluate.specs.Properties.{Each, Pairs}
 use Rattle.evaluate.specs.Segments.{Route, Assignment}
 use Rattle.evaluate.specs.Legal.{Legal}
-use Rattle.search.specs.Walk.{Task, pass, down, give, Frame, Act, leave, doing, enter, unitOf, takesMember}
-use Rattle.search.specs.Run.{Walk, Ending, exhausted, Phase, going, ended, Limits, unlimited, root, begin, afterAct, onTop, unit, units}
-use Rattle.enumeration.proofs.Lists.{mem-map, mem-map-in, mem-each, pairs-append}
+use Rattle.search.specs.Walk.{pass, down, give, Frame, Act, leave, doing, enter, unitOf, takesMember}
+use Rattle.search.specs.Run.{Walk, Ending, exhausted, Phase, going, ended, Limits, unlimited, root, begin, afterAct, unit, units}
+use Rattle.enumeration.proofs.Lists.{mem-map, mem-map-in, pairs-append}
 use Rattle.enumeration.proofs.Tree.{NoDup}
 use Rattle.enumeration.proofs.Stack.{Stack, on, unitOn, steps, acted}
 use Rattle.enumeration.proofs.Ports.{Sound}

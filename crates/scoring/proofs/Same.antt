@@ -7,7 +7,7 @@ use borrow.Author.Tests.{eqb-true, eq-eqb}
 use Rattle.ground.proofs.ListLaws.{both}
 use Rattle.storage.specs.Records.{sameTurn}
 use Rattle.evaluate.specs.declared.Segment.{Segment}
-use Rattle.evaluate.specs.Segments.{Route, Assignment}
+use Rattle.evaluate.specs.Segments.{Assignment}
 use Rattle.evaluate.proofs.NormalForm.{same-turn}
 use Rattle.search.specs.Keep.{Evaluated, sameSegment, sameList, sameAssignment, sameEvaluated}
 

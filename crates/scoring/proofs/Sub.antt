@@ -1,19 +1,16 @@
 -- Subtraction grows with its first operand and falls with its second, rounding and overflow included.
-use mathlib.Core.Path.{_≡_, refl, sym, ap, _∙_, subst}
-use mathlib.Core.Logic.{_⊎_, inl, inr, ⊎-elim}
+use mathlib.Core.Path.{_≡_, refl, subst}
 use Prim.Native.Nat.{ℕ, zero, suc, _+_, _-_, _*_, _^_, _≤_, _<_}
-use native.Mathlib.Nat.{le-trans, le-of-eq, mul-comm, mul-assoc, mul-left-comm, add-mul, mul-add, zero-mul, mul-one, mul-le-mul-right, le-of-mul-le-mul-right, mul-pos}
+use native.Mathlib.Nat.{mul-comm, mul-assoc, mul-left-comm, add-mul, zero-mul, mul-le-mul-right, le-of-mul-le-mul-right, mul-pos}
 use native.Mathlib.Omega.{arith}
-use mathlib.Core.Bool.{Bool, true, false, not, _&&_, _||_, Bool·beq, cond}
-use lib.IntN.{ℤ, pos, negsuc}
+use mathlib.Core.Bool.{Bool, true, false, not, cond}
+use lib.IntN.{ℤ}
 use lib.Dec.{T, ltb, ltb→lt, nltb→le, not-T, T-not, lit<}
 use lib.Ieee as Ieee
-use lib.Ieee.{Float, nan, inf, fin, Format, binary32, binary64, prec, emax, low, up, down, size, odd, units, round, sum, sub, neg, isNan}
-use lib.Ieee.Fits.{round-is, core, down-pos}
-use lib.Ieee.Bits.{is-true}
+use lib.Ieee.{Float, nan, inf, fin, Format, binary32, binary64, prec, emax, low, up, down, odd, units, round, sum, sub, neg, isNan}
 use lib.Ieee.Order.{round-mono}
 use lib.Ieee.Scale.{finite}
-use lib.Ieee.Positive.{num, den, den-pos}
+use lib.Ieee.Positive.{den, den-pos}
 use Rattle.scoring.proofs.Order.{plus, less, sign, pp, nn, LE, le→LE, LE→le, le-trans-float, neg-anti}
 
 -- ---- `round` at the other sign
