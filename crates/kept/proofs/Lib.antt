@@ -1,0 +1,4 @@
+pub mod Steps
+pub mod Spare
+pub mod Mapped
+pub mod Assignments
