@@ -2,3 +2,4 @@ pub mod Steps
 pub mod Spare
 pub mod Mapped
 pub mod Assignments
+pub mod Rooms

@@ -92,3 +92,8 @@ pub record Recorded (v m : ℕ) (width score : Float) (b : Holding) (xs₀ : Lis
 pub record Begun (v m : ℕ) (xs₀ : List ℕ) (ss₀ : List Float) (xs : List ℕ) (ss : List Float) : Type 0 where
   pub ready : Ready v m noHolding xs ss
   pub left : Left v m xs₀ ss₀ xs ss
+
+-- the rooms hold, between two evaluations, what is kept
+pub record Keeps (v m : ℕ) (k : Kept Evaluated) (b : Holding) (xs : List ℕ) (ss : List Float) : Type 0 where
+  pub ready : Ready v m b xs ss
+  pub view : viewOf v b xs ss ≡ mapKept (heldAs v) k
