@@ -29,7 +29,7 @@ impl Scored {
 }
 
 // n words from `from`, copied to `to`, first word first.
-pub fn copy_words(room: &mut [u64], from: usize, to: usize, n: usize)
+fn copy_words(room: &mut [u64], from: usize, to: usize, n: usize)
     requires { ⌜ (from + n ≤ length (now room)) × (to + n ≤ length (now room)) × ((to ≤ from) ⊎ (from + n ≤ to)) ⌝ }
     ensures { λ r. ⌜ now (room .exit) ≡ splice (now (room .entry)) to (part from n (now (room .entry))) ⌝ }
 {
@@ -42,7 +42,7 @@ pub fn copy_words(room: &mut [u64], from: usize, to: usize, n: usize)
 }
 
 // Whether n words from a are those from b.
-pub fn same_words(room: &[u64], a: usize, b: usize, n: usize) -> bool
+fn same_words(room: &[u64], a: usize, b: usize, n: usize) -> bool
     requires { ⌜ (a + n ≤ length (now room)) × (b + n ≤ length (now room)) ⌝ }
     ensures { λ r. ⌜ r ≡ sameWords (part a n (now (room .entry))) (part b n (now (room .entry))) ⌝ }
 {
@@ -57,7 +57,7 @@ pub fn same_words(room: &[u64], a: usize, b: usize, n: usize) -> bool
 }
 
 // n words from a are zeroed.
-pub fn clear_words(room: &mut [u64], a: usize, n: usize)
+fn clear_words(room: &mut [u64], a: usize, n: usize)
     requires { ⌜ a + n ≤ length (now room) ⌝ }
     ensures { λ r. ⌜ now (room .exit) ≡ splice (now (room .entry)) a (replicate n 0) ⌝ }
 {
@@ -79,7 +79,7 @@ pub fn copy_slot(kept: &mut [u64], from: usize, to: usize, v: usize)
 }
 
 // Whether two slots have the same words.
-pub fn same_slot(kept: &[u64], a: usize, b: usize, v: usize) -> bool
+fn same_slot(kept: &[u64], a: usize, b: usize, v: usize) -> bool
     requires { ⌜ (a * v + v ≤ length (now kept)) × (b * v + v ≤ length (now kept)) ⌝ }
     ensures { λ r. ⌜ r ≡ sameWords (slotAt v (now (kept .entry)) a) (slotAt v (now (kept .entry)) b) ⌝ }
 {
@@ -98,7 +98,7 @@ pub fn clear_slot(kept: &mut [u64], slot: usize, v: usize)
 }
 
 // Keeps, in order and at the front, those of the first `count` slots whose score ties with `new`, with their scores; gives how many.
-pub fn retain(
+fn retain(
     kept: &mut [u64],
     scores: &mut [f64],
     count: usize,
