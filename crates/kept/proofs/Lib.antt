@@ -3,3 +3,4 @@ pub mod Spare
 pub mod Mapped
 pub mod Assignments
 pub mod Rooms
+pub mod Lent
