@@ -15,6 +15,7 @@ use Rattle.image.specs.Panel.{panelOf}
 use Rattle.evaluate.specs.Properties.{Each, Matched}
 use Rattle.evaluate.specs.Refusals.{noRefusal, unless}
 use Rattle.evaluate.specs.Segments.{Assignment}
+use Rattle.evaluate.proofs.CheckLegal.{unless-zero}
 use Rattle.search.specs.declared.SearchBudget.{SearchBudget}
 use Rattle.search.specs.declared.SearchReply.{SearchReply}
 use Rattle.search.specs.declared.Status.the-variants.{Certified, SupportIncomplete}
@@ -79,14 +80,10 @@ certified-status (onFrontier a) d q = absurd (omega arith)
 
 -- ---- budgets
 
-unless-none : (t : Bool) (n later : ℕ) → unless t (suc n) later ≡ 0 → t ≡ true
-unless-none true n later e = refl
-unless-none false n later e = absurd (omega arith)
-
 pub some-frontier : (b : SearchBudget) → budgetRefusal b ≡ 0 → 0 < b .«max_frontier»
 unfolding budgetRefusal budgetOk
 some-frontier b e =
-    let ok : budgetOk b ≡ true = unless-none (budgetOk b) 10 (unless (budgetInBounds b) 12 0) e in
+    let ok : budgetOk b ≡ true = unless-zero (budgetOk b) 10 (unless (budgetInBounds b) 12 0) e .0 in
     let w = ltb 0 (b .«max_work») in
     let v = ltb 0 (b .«max_evaluations») in
     let f = ltb 0 (b .«max_frontier») in

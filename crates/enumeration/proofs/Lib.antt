@@ -1,4 +1,3 @@
-pub mod Lists
 pub mod Tree
 pub mod Sim
 pub mod Stack
