@@ -95,11 +95,16 @@ some-frontier b e =
 -- ---- the answer
 
 module _ (s : List ℕ) (b : SearchBudget) (xs : List Float) (rooms : Rooms) (given : Admitted s b xs rooms) where
-  reply-is : searchAnswer s b xs rooms ≡ replyOf (search (panelOf s) b xs)
-  unfolding searchAnswer searchRefusal evaluationRefusal walked walk
-  reply-is =
+  -- nothing is refused
+  pub admitted-passes : searchRefusal s b xs rooms .number ≡ 0
+  unfolding searchRefusal evaluationRefusal walked walk
+  admitted-passes =
       let fine : scoresRefusal 1 (walk (panelOf s) b .walk .out) xs ≡ noRefusal = none-refused 1 (handedOver s b) xs (given .scored) in
       rw (given .panel, given .budget, given .roomy, fine)
+
+  pub reply-is : searchAnswer s b xs rooms ≡ replyOf (search (panelOf s) b xs)
+  unfolding searchAnswer
+  reply-is = rw admitted-passes
 
   status-is : searchAnswer s b xs rooms .status ≡ statusNumber (statusOf (stopOf (walk (panelOf s) b .ending)) (keptBy s b xs .discarded))
   unfolding replyOf search searchFrom searchedAs walked walk
