@@ -11,3 +11,4 @@ pub mod Accepted
 pub mod Budgets
 pub mod Suffice
 pub mod Tally
+pub mod Room
