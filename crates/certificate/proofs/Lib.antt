@@ -4,4 +4,5 @@ pub mod Reply
 pub mod Walk
 pub mod Scores
 pub mod Certificate
+pub mod Told
 pub mod OnE

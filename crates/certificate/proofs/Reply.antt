@@ -15,6 +15,7 @@ use Rattle.image.specs.Panel.{panelOf}
 use Rattle.evaluate.specs.Properties.{Each, Matched}
 use Rattle.evaluate.specs.Refusals.{noRefusal, unless}
 use Rattle.evaluate.specs.Segments.{Assignment}
+use Rattle.evaluate.proofs.CheckLegal.{unless-zero}
 use Rattle.search.specs.declared.SearchBudget.{SearchBudget}
 use Rattle.search.specs.declared.SearchReply.{SearchReply}
 use Rattle.search.specs.declared.Status.the-variants.{Certified, SupportIncomplete}
@@ -79,14 +80,10 @@ certified-status (onFrontier a) d q = absurd (omega arith)
 
 -- ---- budgets
 
-unless-none : (t : Bool) (n later : ℕ) → unless t (suc n) later ≡ 0 → t ≡ true
-unless-none true n later e = refl
-unless-none false n later e = absurd (omega arith)
-
 pub some-frontier : (b : SearchBudget) → budgetRefusal b ≡ 0 → 0 < b .«max_frontier»
 unfolding budgetRefusal budgetOk
 some-frontier b e =
-    let ok : budgetOk b ≡ true = unless-none (budgetOk b) 10 (unless (budgetInBounds b) 12 0) e in
+    let ok : budgetOk b ≡ true = unless-zero (budgetOk b) 10 (unless (budgetInBounds b) 12 0) e .0 in
     let w = ltb 0 (b .«max_work») in
     let v = ltb 0 (b .«max_evaluations») in
     let f = ltb 0 (b .«max_frontier») in
@@ -98,11 +95,16 @@ some-frontier b e =
 -- ---- the answer
 
 module _ (s : List ℕ) (b : SearchBudget) (xs : List Float) (rooms : Rooms) (given : Admitted s b xs rooms) where
-  reply-is : searchAnswer s b xs rooms ≡ replyOf (search (panelOf s) b xs)
-  unfolding searchAnswer searchRefusal evaluationRefusal walked walk
-  reply-is =
+  -- nothing is refused
+  pub admitted-passes : searchRefusal s b xs rooms .number ≡ 0
+  unfolding searchRefusal evaluationRefusal walked walk
+  admitted-passes =
       let fine : scoresRefusal 1 (walk (panelOf s) b .walk .out) xs ≡ noRefusal = none-refused 1 (handedOver s b) xs (given .scored) in
       rw (given .panel, given .budget, given .roomy, fine)
+
+  pub reply-is : searchAnswer s b xs rooms ≡ replyOf (search (panelOf s) b xs)
+  unfolding searchAnswer
+  reply-is = rw admitted-passes
 
   status-is : searchAnswer s b xs rooms .status ≡ statusNumber (statusOf (stopOf (walk (panelOf s) b .ending)) (keptBy s b xs .discarded))
   unfolding replyOf search searchFrom searchedAs walked walk

@@ -20,11 +20,11 @@ use Rattle.search.specs.Run.{nativesOf, walk}
 use Rattle.search.specs.Keep.{Kept, nothing, Evaluated, scoreOf, sameEvaluated, tiedTo, tiesTo, keepAll}
 use Rattle.search.specs.Search.{walked, keptOf, searchedAs, searchFrom, search}
 use Rattle.search.specs.Answers.{Rooms, searchAnswer}
-use Rattle.enumeration.proofs.Lists.{each-mem, each-map, mem-map, mem-map-in}
+use Rattle.evaluate.proofs.Lists.{keep-only, keep-in, pairs-keep, pairs-through, each-mem, each-map, mem-map, mem-map-in}
 use Rattle.enumeration.proofs.Suffice.{natives-length}
 use Rattle.scoring.proofs.Order.{lt→not-le}
 use Rattle.scoring.proofs.Rule.{Finite, champion, champion-least, champion-one, incumbent, scoring, firsts}
-use Rattle.scoring.proofs.Firsts.{keep-only, keep-in, pairs-keep, firsts-only, firsts-all, firsts-once, firsts-ahead, Ahead, Other}
+use Rattle.scoring.proofs.Firsts.{firsts-only, firsts-all, firsts-once, firsts-ahead, Ahead, Other}
 use Rattle.scoring.proofs.Same.{same-told, same-tells}
 use Rattle.certificate.specs.Terms.{Admitted, Exhausted, Scores, evaluations, handedOver, keptBy, NativesThenLegal, Least, Ties, NoTwo, Earlier, assignmentOf}
 use Rattle.certificate.specs.Demand3.{AllScored, IncumbentIsLeast, TiedAre, TiedAreAll}
@@ -45,15 +45,7 @@ not-lower x y h = go (Ieee.lt x y) refl (Ieee.le y x) refl h
     go true e true f t = absurd (subst (λ (d : Bool). T (not d)) f (lt→not-le x y (is-T (Ieee.lt x y) e)))
     go true e false f t = absurd t
 
--- ---- pairs of a list, seen through a function
-
-pairs-through : {A B : Type 0} (f : A → B) (R : A → A → Type 0) (S : B → B → Type 0) → ((a c : A) → R a c → S (f a) (f c)) → (l : List A) → Pairs R l → Pairs S (map f l)
-pairs-through f R S g [] h = tt
-pairs-through {A} f R S g (a ∷ l) h = (go l (h .0), pairs-through f R S g l (h .1))
-  where
-    go : (l : List A) → Each (R a) l → Each (S (f a)) (map f l)
-    go [] h = tt
-    go (c ∷ l) h = (g a c (h .0), go l (h .1))
+-- ---- evaluations
 
 map-append : {A B : Type 0} (f : A → B) (l m : List A) → map f (l ++ m) ≡ map f l ++ map f m
 map-append f [] m = refl

@@ -4,16 +4,15 @@ use Prim.Native.Nat.{ℕ, zero, suc, _+_, _≤_, _<_}
 use native.Mathlib.Omega.{arith}
 use mathlib.Core.Path.{sym, ap, _∙_, subst}
 use mathlib.Core.Logic.{_⊎_, ⊎-elim}
-use mathlib.Core.List.{List, [], _∷_, List·Memᴰ, List·Memᴰ·not-nil, List·Memᴰ·cases-cons, List·Memᴰ·append-cases}
+use mathlib.Core.List.{List, [], List·Memᴰ, List·Memᴰ·not-nil, List·Memᴰ·cases-cons, List·Memᴰ·append-cases}
 use lib.ListN.{length}
 use Rattle.ground.specs.Lists.{numbersFrom}
 use Rattle.image.specs.Panel.{panelOf}
-use Rattle.evaluate.specs.Properties.{Pairs, Neighbours}
 use Rattle.evaluate.specs.Segments.{Assignment, nativeOf}
 use Rattle.evaluate.specs.Legal.{Legal}
 use Rattle.evaluate.proofs.Native.{native-legal}
 use Rattle.search.specs.Run.{Walk, unlimited, walk, nativesOf, outset}
-use Rattle.enumeration.proofs.Lists.{mem-map}
+use Rattle.evaluate.proofs.Lists.{mem-map, pairs-neighbours}
 use Rattle.enumeration.proofs.Accepted.{accepted-ends}
 use Rattle.enumeration.proofs.Suffice.{one-end, ends-iff, ends-as}
 use Rattle.certificate.specs.Terms.{PanelAccepted, NativesThenLegal}
@@ -28,11 +27,6 @@ exhausted-when-enough s b xs rooms given u =
     let i = exhausted-iff s b xs rooms given in
     let j = ends-iff (panelOf s) b (given .families) (some-frontier b (given .budget)) u in
     (λ h. j .0 (i .0 h), λ h. i .1 (j .1 h))
-
-pairs-neighbours : {A : Type 0} (R : A → A → Type 0) (l : List A) → Pairs R l → Neighbours R l
-pairs-neighbours R [] h = tt
-pairs-neighbours R (a ∷ []) h = tt
-pairs-neighbours R (a ∷ b ∷ l) h = (h .0 .0, pairs-neighbours R (b ∷ l) (h .1))
 
 pub whole-walk : WholeWalk
 whole-walk s e u =

@@ -1,3 +1,4 @@
 pub mod Terms
 pub mod Demand3
+pub mod Told
 pub mod Examples

@@ -25,7 +25,7 @@ use Rattle.graph.proofs.PanelLaws.{lane-source, lane-ends, lane-row-rises, hub-
 use Rattle.evaluate.specs.Properties.{Pairs}
 use Rattle.evaluate.proofs.Native.{taken}
 use Rattle.search.specs.Run.{untouched, seededWith, nativesOf, outset}
-use Rattle.enumeration.proofs.Lists.{rising-all}
+use Rattle.evaluate.proofs.Lists.{rising-all}
 use Rattle.enumeration.proofs.Ports.{Sound}
 use Rattle.enumeration.proofs.Whole.{Ends, walk-ends}
 

@@ -25,7 +25,7 @@ use Rattle.evaluate.specs.Segments.{Route, entry, exit, flat, clear, SoundSpan,
 use Rattle.evaluate.specs.Legal.{Leaves, Joint}
 use Rattle.evaluate.proofs.NormalForm.{same-turn, joins, Joins}
 use Rattle.search.specs.Walk.{pass, down, give, Place, Doing, onPath, pieceTo, reach, switched, closes, closed, begins, samePlace, terminalTask, memberTask, portsHere, firstPort}
-use Rattle.enumeration.proofs.Lists.{mem-drop-take, mem-reverse-in, past-take, past-drop, in-slice, in-drop, in-take, Falling, falling-of}
+use Rattle.evaluate.proofs.Lists.{mem-drop-take, mem-reverse-in, past-take, past-drop, in-slice, in-drop, in-take, Falling, falling-of}
 use Rattle.enumeration.proofs.Tree.{Gives, here, below}
 use Rattle.enumeration.proofs.Sim.{portsIn, portsLeft, over, tasksOf}
 use Rattle.enumeration.proofs.Measure.{and-left, and-right}

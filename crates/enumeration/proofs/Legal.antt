@@ -6,12 +6,12 @@ use mathlib.Core.Bool.{Bool, false}
 use mathlib.Core.List.{List, [], _∷_, _++_}
 use Rattle.image.specs.Panel.{Panel}
 use Rattle.evaluate.specs.declared.Segment.{Segment}
-use Rattle.evaluate.specs.Properties.{Each, Pairs, Neighbours, First, Last, Matched}
+use Rattle.evaluate.specs.Properties.{Each, Pairs, Neighbours, First, Last}
 use Rattle.evaluate.specs.Segments.{Route, entry, SoundSpan, Unjoined}
 use Rattle.evaluate.specs.Legal.{Enters, Leaves, Joint, LegalRoute, Apart}
 use Rattle.evaluate.proofs.NormalForm.{Filled}
-use Rattle.evaluate.proofs.CheckLegal.{each-append, append-each, clear-to, clear-from}
-use Rattle.enumeration.proofs.Lists.{each-map}
+use Rattle.evaluate.proofs.CheckLegal.{clear-to, clear-from}
+use Rattle.evaluate.proofs.Lists.{each-map, each-append, append-each}
 use Rattle.enumeration.proofs.Given.{Begins, Chain, RouteOf, Clear}
 
 -- ---- a chain is a legal route
@@ -64,12 +64,6 @@ module _ (p : Panel) (target : ℕ) where
         },
     λ h. chain-of target 0 false r (first-of r (h .enters)) (h .spans) (h .normal) (h .leaves) (h .joints),
   )
-
-pub matched-map : {A B : Type 0} (P Q : A → B → Type 0) → ((a : A) (b : B) → P a b → Q a b) → (l : List A) (m : List B) → Matched P l m → Matched Q l m
-matched-map P Q f [] [] h = tt
-matched-map P Q f [] (b ∷ m) h = h
-matched-map P Q f (a ∷ l) [] h = h
-matched-map P Q f (a ∷ l) (b ∷ m) h = (f a b (h .0), matched-map P Q f l m (h .1))
 
 -- ---- clear of what stands before is apart
 

@@ -1,4 +1,3 @@
-pub mod Lists
 pub mod Tree
 pub mod Sim
 pub mod Stack
@@ -12,3 +11,4 @@ pub mod Accepted
 pub mod Budgets
 pub mod Suffice
 pub mod Tally
+pub mod Room

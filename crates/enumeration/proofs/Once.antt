@@ -24,13 +24,13 @@ use Rattle.evaluate.specs.Legal as Legality
 use Rattle.evaluate.specs.Legal.{LegalRoute}
 use Rattle.evaluate.proofs.CheckLegal.{flat-filled}
 use Rattle.search.specs.Walk.{Task, pass, down, give, Place, Doing, onPath, pieceTo, reach, switched, closes, closed, begins, samePlace, terminalTask, memberTask, portsHere, firstPort, enter}
-use Rattle.enumeration.proofs.Lists.{mem-map, each-mem, mem-each, pairs-map, pairs-drop, pairs-take, pairs-reverse}
+use Rattle.evaluate.proofs.Lists.{matched-map, mem-map, each-mem, mem-each, pairs-map, pairs-drop, pairs-take, pairs-reverse}
 use Rattle.enumeration.proofs.Tree.{Yields, Apart, NoDup, enum, enum-once, enum-iff}
 use Rattle.enumeration.proofs.Sim.{portsIn, portsLeft, hubTasks, portTasks, over, tasksOf}
 use Rattle.enumeration.proofs.Stack.{on, steps, walked}
 use Rattle.enumeration.proofs.Ports.{Sound, Switch, bucket, in-over, in-tasks, Past, coming, cut-in, μ, falls}
 use Rattle.enumeration.proofs.Given.{Begins, Chain, RouteOf, Completes, Fine, gives-legal, gives-iff, terminal-fine, switch-fine, piece-exit, bucket-word}
-use Rattle.enumeration.proofs.Legal.{route-iff, matched-map, clear-iff}
+use Rattle.enumeration.proofs.Legal.{route-iff, clear-iff}
 
 -- ---- records that differ
 

@@ -22,7 +22,7 @@ use Rattle.evaluate.specs.Properties.{Pairs}
 use Rattle.evaluate.specs.Segments.{flat, clear}
 use Rattle.evaluate.proofs.NormalForm.{same-turn}
 use Rattle.search.specs.Walk.{pass, down, give, Place, Doing, onPath, pieceTo, reach, switched, closes, closed, begins, samePlace, terminalTask, memberTask, portsHere, firstPort}
-use Rattle.enumeration.proofs.Lists.{mem-reverse, mem-map, mem-map-in, Falling, falling-of, past-drop, past-take}
+use Rattle.evaluate.proofs.Lists.{mem-reverse, mem-map, mem-map-in, Falling, falling-of, past-drop, past-take}
 use Rattle.enumeration.proofs.Sim.{portsIn, portsLeft, hubTasks, portTasks, over, tasksOf}
 use Rattle.enumeration.proofs.Measure.{and-left, and-right, free, free-falls}
 

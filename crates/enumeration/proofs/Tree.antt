@@ -6,7 +6,7 @@ use mathlib.Core.Path.{_≡_, refl, _∙_, ap, subst}
 use lib.Seq.{append-snoc}
 use Rattle.evaluate.specs.Properties.{Pairs}
 use Rattle.search.specs.Walk.{Task, pass, down, give}
-use Rattle.enumeration.proofs.Lists.{pairs-append, mem-each}
+use Rattle.evaluate.proofs.Lists.{pairs-append, mem-each}
 use mathlib.Core.Logic.{_⊎_, inl, inr, _↔_}
 use mathlib.Core.List.{List, [], _∷_, _++_, append-assoc, append-nil, List·Memᴰ, List·Memᴰ·append-cases, List·Memᴰ·cases-cons, List·Memᴰ·not-nil, List·Memᴰ·head, List·Memᴰ·tail, Memᴰ·cast, Memᴰ·append-left, Memᴰ·append-right}
 

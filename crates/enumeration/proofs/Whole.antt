@@ -17,7 +17,7 @@ use Rattle.evaluate.specs.Segments.{Route, Assignment}
 use Rattle.evaluate.specs.Legal.{Legal}
 use Rattle.search.specs.Walk.{pass, down, give, Frame, Act, leave, doing, enter, unitOf, takesMember}
 use Rattle.search.specs.Run.{Walk, Ending, exhausted, Phase, going, ended, Limits, unlimited, root, begin, afterAct, unit, units}
-use Rattle.enumeration.proofs.Lists.{mem-map, mem-map-in, pairs-append}
+use Rattle.evaluate.proofs.Lists.{mem-map, mem-map-in, pairs-append}
 use Rattle.enumeration.proofs.Tree.{NoDup}
 use Rattle.enumeration.proofs.Stack.{Stack, on, unitOn, steps, acted}
 use Rattle.enumeration.proofs.Ports.{Sound}

@@ -14,6 +14,7 @@ use Rattle.storage.specs.declared.Port.{Port}
 use Rattle.image.specs.Panel.{Panel, PanelLane, panelOf, laneAt, pathsAt}
 use Rattle.evaluate.specs.declared.Segment.{Segment}
 use Rattle.evaluate.specs.declared.Refusal.{Refusal}
+use Rattle.evaluate.proofs.Lists.{each-append, append-each}
 use Rattle.evaluate.specs.Properties.{Each, Pairs, Neighbours, First, Last, Matched}
 use Rattle.evaluate.specs.Refusals.{noRefusal, unless, orElse, at}
 use Rattle.graph.specs.Check.{panelRefusal}
@@ -30,7 +31,7 @@ use Rattle.evaluate.proofs.Native.{taken}
 
 -- ---- numbers that are 0
 
-unless-zero : (b : Bool) (n m : ℕ) → unless b (suc n) m ≡ 0 → (b ≡ true) × (m ≡ 0)
+pub unless-zero : (b : Bool) (n m : ℕ) → unless b (suc n) m ≡ 0 → (b ≡ true) × (m ≡ 0)
 unless-zero true n m e = (refl, e)
 unless-zero false n m e = let z : suc n ≡ 0 = e in let x : ⊥ = omega arith in absurd x
 
@@ -44,16 +45,6 @@ zero-at n i later e h = subst (λ (m : ℕ). at m i later .number ≡ 0) (sym e)
 else-zero : (n m : ℕ) → orElse n m ≡ 0 → (n ≡ 0) × (m ≡ 0)
 else-zero zero m e = (refl, e)
 else-zero (suc n) m e = let z : suc n ≡ 0 = e in let x : ⊥ = omega arith in absurd x
-
--- ---- lists
-
-pub each-append : {A : Type 0} (P : A → Type 0) (l m : List A) → Each P l → Each P m → Each P (l ++ m)
-each-append P [] m h k = k
-each-append P (a ∷ l) m h k = (h .0, each-append P l m (h .1) k)
-
-pub append-each : {A : Type 0} (P : A → Type 0) (l m : List A) → Each P (l ++ m) → Each P l × Each P m
-append-each P [] m h = (tt, h)
-append-each P (a ∷ l) m h = let (x, y) = append-each P l m (h .1) in ((h .0, x), y)
 
 -- ---- one route
 

@@ -1,3 +1,4 @@
+pub mod Lists
 pub mod RoundTrips
 pub mod Bases
 pub mod NormalForm

@@ -1,69 +1,19 @@
 -- The first of each, in order: which they are, that none comes twice, and the order they stand in.
 use mathlib.Core.Path.{_≡_, refl, sym, ap, _∙_, subst}
 use mathlib.Core.Logic.{_⊎_, inl, inr, ⊎-elim}
-use mathlib.Core.Bool.{Bool, true, false, _||_, true≢false}
-use mathlib.Core.List.{List, [], _∷_, _++_, append-assoc, List·Memᴰ, List·Memᴰ·head, List·Memᴰ·tail, List·Memᴰ·not-nil, List·Memᴰ·cases-cons, List·Memᴰ·append-cases, Memᴰ·append-left, Memᴰ·append-right}
-use Rattle.ground.specs.Lists.{pick, any, keep, consIf}
+use mathlib.Core.Bool.{Bool, true, false, true≢false}
+use mathlib.Core.List.{List, [], _∷_, _++_, append-assoc, List·Memᴰ, List·Memᴰ·head, List·Memᴰ·tail, List·Memᴰ·not-nil, List·Memᴰ·cases-cons, List·Memᴰ·eq-of-singleton, List·Memᴰ·append-cases, Memᴰ·append-left, Memᴰ·append-right}
+use Rattle.ground.specs.Lists.{pick, any}
 use Rattle.ground.proofs.Members.{any-mem}
-use Rattle.evaluate.specs.Properties.{Each, Pairs}
-use Rattle.evaluate.proofs.CheckLegal.{each-append}
+use Rattle.evaluate.specs.Properties.{Pairs}
+use Rattle.evaluate.proofs.Lists.{any-in, pairs-append}
 use Rattle.search.specs.Keep.{has}
 use Rattle.scoring.proofs.Rule.{onto, firsts, in-onto}
 
 module _ {A : Type 0} where
-  pub any-in : (t : A → Bool) (x : A) → t x ≡ true → (l : List A) → List·Memᴰ x l → any t l ≡ true
-  unfolding any
-  any-in t x e [] m = absurd (List·Memᴰ·not-nil m)
-  any-in t x e (a ∷ l) m = go (t a) refl (any-in t x e l) (List·Memᴰ·cases-cons m)
-    where
-      go : (b : Bool) → t a ≡ b → (List·Memᴰ x l → any t l ≡ true) → (x ≡ a) ⊎ List·Memᴰ x l → (b || any t l) ≡ true
-      go true q f c = refl
-      go false q f (inl c) = absurd (true≢false (sym e ∙ ap t c ∙ q))
-      go false q f (inr k) = f k
-
   mem-split : {x : A} {l : List A} → List·Memᴰ x l → (u : List A) × (v : List A) × (l ≡ u ++ (x ∷ v))
   mem-split (List·Memᴰ·head {xs = xs} e) = ([], xs, ap (λ (z : A). z ∷ xs) (sym e))
   mem-split (List·Memᴰ·tail {x = a} m) = let (u, v, e) = mem-split m in (a ∷ u, v, ap (λ (l : List A). a ∷ l) e)
-
-  -- ---- those of a list that pass a test
-
-  pub keep-only : (t : A → Bool) (x : A) (l : List A) → List·Memᴰ x (keep t l) → List·Memᴰ x l × (t x ≡ true)
-  unfolding keep
-  keep-only t x [] m = absurd (List·Memᴰ·not-nil m)
-  keep-only t x (a ∷ l) m = go (t a) refl (keep-only t x l) m
-    where
-      go : (b : Bool) → t a ≡ b → (List·Memᴰ x (keep t l) → List·Memᴰ x l × (t x ≡ true)) → List·Memᴰ x (consIf b a (keep t l)) → List·Memᴰ x (a ∷ l) × (t x ≡ true)
-      go true e k m = ⊎-elim (λ c. (List·Memᴰ·head c, ap t c ∙ e)) (λ n. (List·Memᴰ·tail (k n .0), k n .1)) (List·Memᴰ·cases-cons m)
-      go false e k m = (List·Memᴰ·tail (k m .0), k m .1)
-
-  pub keep-in : (t : A → Bool) (x : A) → t x ≡ true → (l : List A) → List·Memᴰ x l → List·Memᴰ x (keep t l)
-  unfolding keep
-  keep-in t x e [] m = absurd (List·Memᴰ·not-nil m)
-  keep-in t x e (a ∷ l) m = go (t a) refl (keep-in t x e l) (List·Memᴰ·cases-cons m)
-    where
-      go : (b : Bool) → t a ≡ b → (List·Memᴰ x l → List·Memᴰ x (keep t l)) → (x ≡ a) ⊎ List·Memᴰ x l → List·Memᴰ x (consIf b a (keep t l))
-      go true q f (inl c) = List·Memᴰ·head c
-      go true q f (inr k) = List·Memᴰ·tail (f k)
-      go false q f (inl c) = absurd (true≢false (sym e ∙ ap t c ∙ q))
-      go false q f (inr k) = f k
-
-  each-keep : (t : A → Bool) (P : A → Type 0) (l : List A) → Each P l → Each P (keep t l)
-  unfolding keep
-  each-keep t P [] h = tt
-  each-keep t P (a ∷ l) h = go (t a) (each-keep t P l (h .1))
-    where
-      go : (b : Bool) → Each P (keep t l) → Each P (consIf b a (keep t l))
-      go true k = (h .0, k)
-      go false k = k
-
-  pub pairs-keep : (t : A → Bool) (R : A → A → Type 0) (l : List A) → Pairs R l → Pairs R (keep t l)
-  unfolding keep
-  pairs-keep t R [] h = tt
-  pairs-keep t R (a ∷ l) h = go (t a) (each-keep t (R a) l (h .0)) (pairs-keep t R l (h .1))
-    where
-      go : (b : Bool) → Each (R a) (keep t l) → Pairs R (keep t l) → Pairs R (consIf b a (keep t l))
-      go true e k = (e, k)
-      go false e k = k
 
 -- same tells whether two have one key
 module _ {A B : Type 0} (same : A → A → Bool) (key : A → B) (told : (x y : A) → same x y ≡ true → key x ≡ key y) (tells : (x y : A) → key x ≡ key y → same x y ≡ true) where
@@ -108,15 +58,6 @@ module _ {A B : Type 0} (same : A → A → Bool) (key : A → B) (told : (x y :
   abbrev pub Other : A → A → Type 0
   Other d e = key d ≡ key e → ⊥
 
-  module _ (R : A → A → Type 0) where
-    pairs-snoc : (f : List A) (a : A) → Pairs R f → Each (λ d. R d a) f → Pairs R (f ++ (a ∷ []))
-    pairs-snoc [] a h k = (tt, tt)
-    pairs-snoc (x ∷ f) a h k = (each-append (R x) f (a ∷ []) (h .0) (k .0, tt), pairs-snoc f a (h .1) (k .1))
-
-  each-of : (P : A → Type 0) (l : List A) → ((x : A) → List·Memᴰ x l → P x) → Each P l
-  each-of P [] h = tt
-  each-of P (a ∷ l) h = (h a (List·Memᴰ·head refl), each-of P l (λ x m. h x (List·Memᴰ·tail m)))
-
   absent : (f : List A) (a : A) → has same a f ≡ false → (z : A) → List·Memᴰ z f → key z ≡ key a → ⊥
   absent f a e z m q = true≢false (sym (any-in (λ b. same b a) z (tells z a q) f m) ∙ e)
 
@@ -127,7 +68,7 @@ module _ {A B : Type 0} (same : A → A → Bool) (key : A → B) (told : (x y :
     where
       go : (c : Bool) → has same a f ≡ c → Pairs Other (pick c f (f ++ (a ∷ [])))
       go true e = h
-      go false e = pairs-snoc Other f a h (each-of (λ d. Other d a) f (λ z m q. absent f a e z m q))
+      go false e = pairs-append Other f (a ∷ []) h (tt, tt) (λ z y m n q. absent f a e z m (q ∙ ap key (List·Memᴰ·eq-of-singleton n)))
 
   -- after the elements of before, whose firsts are f
   firsts-order : (before f l : List A) → ((x : A) → List·Memᴰ x f → List·Memᴰ x before) → ((y : A) → List·Memᴰ y before → Stands y f) → Pairs (Ahead (before ++ l)) f
@@ -156,7 +97,7 @@ module _ {A B : Type 0} (same : A → A → Bool) (key : A → B) (told : (x y :
 
       go : (c : Bool) → has same a f ≡ c → Pairs (Ahead (before ++ (a ∷ l))) (pick c f (f ++ (a ∷ [])))
       go true e = h
-      go false e = pairs-snoc (Ahead (before ++ (a ∷ l))) f a h (each-of (λ d. Ahead (before ++ (a ∷ l)) d a) f (ahead e))
+      go false e = pairs-append (Ahead (before ++ (a ∷ l))) f (a ∷ []) h (tt, tt) (λ d y m n. subst (Ahead (before ++ (a ∷ l)) d) (sym (List·Memᴰ·eq-of-singleton n)) (ahead e d m))
 
   pub firsts-ahead : (l : List A) → Pairs (Ahead l) (firsts same [] l)
   firsts-ahead l = firsts-order [] [] l (λ x m. m) (λ y m. absurd (List·Memᴰ·not-nil m)) tt

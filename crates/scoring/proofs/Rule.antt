@@ -11,7 +11,7 @@ use lib.Ieee.{Float, binary64}
 use lib.Ieee.Scale.{finite}
 use Rattle.ground.specs.Lists.{pick, any, keep, consIf}
 use Rattle.evaluate.specs.Properties.{Each}
-use Rattle.evaluate.proofs.CheckLegal.{each-append}
+use Rattle.evaluate.proofs.Lists.{each-append}
 use Rattle.search.specs.Keep.{Kept, nothing, tiedTo, lowers, near, tiesTo, has, adding, replaced, lowered, added, keepOne, keepAll}
 use Rattle.scoring.proofs.Order.{lt→le, not-lt→le, le-trans-float}
 use Rattle.scoring.proofs.Sub.{fin-refl, finite-real, stays-over}

@@ -1,15 +1,14 @@
--- Members of lists, pairs of lists, and what a count cuts off where a test, once failed, fails from there on.
+-- Laws of Each, Pairs, Neighbours and Matched, of members, and of what a count cuts off where a test, once failed, fails from there on.
 use Prim.Native.Nat.{ℕ, zero, suc}
 use mathlib.Core.Path.{_≡_, refl, sym, _∙_, ap, subst}
-use mathlib.Core.Logic.{_⊎_, inl, inr}
-use mathlib.Core.Bool.{Bool, true, false, true≢false}
+use mathlib.Core.Logic.{_⊎_, inl, inr, ⊎-elim}
+use mathlib.Core.Bool.{Bool, true, false, _||_, true≢false}
 use mathlib.Core.List.{List, [], _∷_, _++_, map, reverseAux, List·Memᴰ, List·Memᴰ·head, List·Memᴰ·tail, List·Memᴰ·not-nil, List·Memᴰ·cases-cons}
 use lib.ListN.{take, drop}
-use Rattle.ground.specs.Lists.{count, oneMoreIf, after, rising}
+use Rattle.ground.specs.Lists.{any, count, keep, oneMoreIf, consIf, after, rising}
 use Rattle.ground.proofs.ListLaws.{both}
 use Rattle.ground.proofs.Members.{mem-take, mem-drop}
-use Rattle.evaluate.specs.Properties.{Each, Pairs}
-use Rattle.evaluate.proofs.CheckLegal.{each-append}
+use Rattle.evaluate.specs.Properties.{Each, Pairs, Neighbours, Matched}
 
 -- ---- members
 
@@ -56,7 +55,26 @@ module _ {A : Type 0} where
   mem-drop-take (suc n) (suc k) [] m = m
   mem-drop-take (suc n) (suc k) (a ∷ l) m = mem-drop-take n k l m
 
+  -- a test that a member passes, one passes
+  pub any-in : (t : A → Bool) (x : A) → t x ≡ true → (l : List A) → List·Memᴰ x l → any t l ≡ true
+  unfolding any
+  any-in t x e [] m = absurd (List·Memᴰ·not-nil m)
+  any-in t x e (a ∷ l) m = go (t a) refl (any-in t x e l) (List·Memᴰ·cases-cons m)
+    where
+      go : (b : Bool) → t a ≡ b → (List·Memᴰ x l → any t l ≡ true) → (x ≡ a) ⊎ List·Memᴰ x l → (b || any t l) ≡ true
+      go true q f c = refl
+      go false q f (inl c) = absurd (true≢false (sym e ∙ ap t c ∙ q))
+      go false q f (inr k) = f k
+
 -- ---- each and pairs
+
+pub each-append : {A : Type 0} (P : A → Type 0) (l m : List A) → Each P l → Each P m → Each P (l ++ m)
+each-append P [] m h k = k
+each-append P (a ∷ l) m h k = (h .0, each-append P l m (h .1) k)
+
+pub append-each : {A : Type 0} (P : A → Type 0) (l m : List A) → Each P (l ++ m) → Each P l × Each P m
+append-each P [] m h = (tt, h)
+append-each P (a ∷ l) m h = let (x, y) = append-each P l m (h .1) in ((h .0, x), y)
 
 module _ {A : Type 0} (P : A → Type 0) where
   pub each-mem : (l : List A) → Each P l → {x : A} → List·Memᴰ x l → P x
@@ -108,6 +126,67 @@ module _ {A : Type 0} (R : A → A → Type 0) where
       go : (x y : A) → List·Memᴰ x l → (y ≡ a) ⊎ List·Memᴰ y r → R x y
       go x y m (inl e) = subst (R x) (sym e) (back a x (each-mem (R a) l (h .0) m))
       go x y m (inr n) = c x y (List·Memᴰ·tail m) n
+
+-- through a function
+pub pairs-through : {A B : Type 0} (f : A → B) (R : A → A → Type 0) (S : B → B → Type 0) → ((a c : A) → R a c → S (f a) (f c)) → (l : List A) → Pairs R l → Pairs S (map f l)
+pairs-through f R S g [] h = tt
+pairs-through {A} f R S g (a ∷ l) h = (go l (h .0), pairs-through f R S g l (h .1))
+  where
+    go : (l : List A) → Each (R a) l → Each (S (f a)) (map f l)
+    go [] h = tt
+    go (c ∷ l) h = (g a c (h .0), go l (h .1))
+
+pub pairs-neighbours : {A : Type 0} (R : A → A → Type 0) (l : List A) → Pairs R l → Neighbours R l
+pairs-neighbours R [] h = tt
+pairs-neighbours R (a ∷ []) h = tt
+pairs-neighbours R (a ∷ b ∷ l) h = (h .0 .0, pairs-neighbours R (b ∷ l) (h .1))
+
+pub matched-map : {A B : Type 0} (P Q : A → B → Type 0) → ((a : A) (b : B) → P a b → Q a b) → (l : List A) (m : List B) → Matched P l m → Matched Q l m
+matched-map P Q f [] [] h = tt
+matched-map P Q f [] (b ∷ m) h = h
+matched-map P Q f (a ∷ l) [] h = h
+matched-map P Q f (a ∷ l) (b ∷ m) h = (f a b (h .0), matched-map P Q f l m (h .1))
+
+module _ {A : Type 0} where
+  -- ---- those of a list that pass a test
+
+  pub keep-only : (t : A → Bool) (x : A) (l : List A) → List·Memᴰ x (keep t l) → List·Memᴰ x l × (t x ≡ true)
+  unfolding keep
+  keep-only t x [] m = absurd (List·Memᴰ·not-nil m)
+  keep-only t x (a ∷ l) m = go (t a) refl (keep-only t x l) m
+    where
+      go : (b : Bool) → t a ≡ b → (List·Memᴰ x (keep t l) → List·Memᴰ x l × (t x ≡ true)) → List·Memᴰ x (consIf b a (keep t l)) → List·Memᴰ x (a ∷ l) × (t x ≡ true)
+      go true e k m = ⊎-elim (λ c. (List·Memᴰ·head c, ap t c ∙ e)) (λ n. (List·Memᴰ·tail (k n .0), k n .1)) (List·Memᴰ·cases-cons m)
+      go false e k m = (List·Memᴰ·tail (k m .0), k m .1)
+
+  pub keep-in : (t : A → Bool) (x : A) → t x ≡ true → (l : List A) → List·Memᴰ x l → List·Memᴰ x (keep t l)
+  unfolding keep
+  keep-in t x e [] m = absurd (List·Memᴰ·not-nil m)
+  keep-in t x e (a ∷ l) m = go (t a) refl (keep-in t x e l) (List·Memᴰ·cases-cons m)
+    where
+      go : (b : Bool) → t a ≡ b → (List·Memᴰ x l → List·Memᴰ x (keep t l)) → (x ≡ a) ⊎ List·Memᴰ x l → List·Memᴰ x (consIf b a (keep t l))
+      go true q f (inl c) = List·Memᴰ·head c
+      go true q f (inr k) = List·Memᴰ·tail (f k)
+      go false q f (inl c) = absurd (true≢false (sym e ∙ ap t c ∙ q))
+      go false q f (inr k) = f k
+
+  each-keep : (t : A → Bool) (P : A → Type 0) (l : List A) → Each P l → Each P (keep t l)
+  unfolding keep
+  each-keep t P [] h = tt
+  each-keep t P (a ∷ l) h = go (t a) (each-keep t P l (h .1))
+    where
+      go : (b : Bool) → Each P (keep t l) → Each P (consIf b a (keep t l))
+      go true k = (h .0, k)
+      go false k = k
+
+  pub pairs-keep : (t : A → Bool) (R : A → A → Type 0) (l : List A) → Pairs R l → Pairs R (keep t l)
+  unfolding keep
+  pairs-keep t R [] h = tt
+  pairs-keep t R (a ∷ l) h = go (t a) (each-keep t (R a) l (h .0)) (pairs-keep t R l (h .1))
+    where
+      go : (b : Bool) → Each (R a) (keep t l) → Pairs R (keep t l) → Pairs R (consIf b a (keep t l))
+      go true e k = (e, k)
+      go false e k = k
 
 -- a list that rises by an order stands in it, each with all that follow
 module _ {A : Type 0} (f : A → A → Bool) (chain : (a b c : A) → f a b ≡ true → f b c ≡ true → f a c ≡ true) where
