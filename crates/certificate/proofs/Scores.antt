@@ -23,7 +23,7 @@ use Rattle.search.specs.Answers.{Rooms, searchAnswer}
 use Rattle.evaluate.proofs.Lists.{keep-only, keep-in, pairs-keep, pairs-through, each-mem, each-map, mem-map, mem-map-in}
 use Rattle.enumeration.proofs.Suffice.{natives-length}
 use Rattle.scoring.proofs.Order.{lt→not-le}
-use Rattle.scoring.proofs.Rule.{Finite, champion, champion-least, champion-one, incumbent, scoring, firsts}
+use Rattle.scoring.proofs.Rule.{Finite, champion, champion-least, champion-one, incumbent, scoring, firsts, tied-from}
 use Rattle.scoring.proofs.Firsts.{firsts-only, firsts-all, firsts-once, firsts-ahead, Ahead, Other}
 use Rattle.scoring.proofs.Same.{same-told, same-tells}
 use Rattle.certificate.specs.Terms.{Admitted, Exhausted, Scores, evaluations, handedOver, keptBy, NativesThenLegal, Least, Ties, NoTwo, Earlier, assignmentOf}
@@ -63,8 +63,14 @@ module _ (s : List ℕ) (b : SearchBudget) (xs : List Float) (rooms : Rooms) (gi
   finites = each-map (λ (e : Evaluated). finite (e .score) ≡ true) (Finite scoreOf) (λ e q. is-T (finite (e .score)) q) (evaluations s b xs) (finite-scores (handedOver s b) xs (given .scored))
 
   -- an evaluation is of something handed over
-  handed-of : (e : Evaluated) → List·Memᴰ e (evaluations s b xs) → List·Memᴰ (e .assignment) (handedOver s b)
+  pub handed-of : (e : Evaluated) → List·Memᴰ e (evaluations s b xs) → List·Memᴰ (e .assignment) (handedOver s b)
   handed-of e m = subst (λ (l : List Assignment). List·Memᴰ (e .assignment) l) made (mem-map-in assignmentOf m)
+
+  -- discarded or not, what is tied was evaluated
+  pub tied-evaluated : (e : Evaluated) → List·Memᴰ e (keptBy s b xs .tied) → List·Memᴰ e (evaluations s b xs)
+  tied-evaluated e m =
+      ⊎-elim (λ k. absurd (List·Memᴰ·not-nil k)) (λ k. k)
+      (tied-from scoreOf sameEvaluated (b .«max_optima») (b .«tie_width») nothing (evaluations s b xs) e (subst (λ (k : Kept Evaluated). List·Memᴰ e (k .tied)) kept-is m))
 
   scored-of : (a : Assignment) → List·Memᴰ a (handedOver s b) → (x : Float) × Scores s b xs a x
   scored-of a m =

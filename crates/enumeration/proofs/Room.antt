@@ -17,9 +17,9 @@ use Rattle.evaluate.specs.Segments.{Route, Assignment, flat, clear, whole, nati
 use Rattle.evaluate.specs.Words.{segmentWords, routeWords, encode}
 use Rattle.evaluate.proofs.Lists.{each-append, each-map}
 use Rattle.search.specs.declared.SearchBudget.{SearchBudget}
-use Rattle.search.specs.Walk.{Task, pass, down, give, Place, Frame, Doing, Act, leave, doing, enter, begins, onPath, reach, switched, closes, closed, samePlace, terminalTask, memberTask, onward, outgoing, hubOpen, nextPort, spent, opening, moved, portUnit, hubUnit, unitOf, takesMember}
-use Rattle.search.specs.Run.{Walk, Walked, Ending, exhausted, onEvaluation, onFrontier, Phase, going, ended, Limits, limitsOf, root, stacked, begin, spend, handed, doneWith, afterAct, onTop, unit, units, stopped, run, seeds, seededWith, seeded, short, afterSeeding, walkFrom, untouched, walk}
-use Rattle.search.specs.Rooms.{mostPaths, widthFor, slotWidth}
+use Rattle.search.specs.Walk.{pass, down, give, Place, Frame, Doing, Act, leave, doing, enter, begins, onPath, reach, switched, closes, closed, samePlace, terminalTask, memberTask, onward, outgoing, hubOpen, nextPort, spent, moved, portUnit, hubUnit, unitOf, takesMember}
+use Rattle.search.specs.Run.{Walk, exhausted, onEvaluation, onFrontier, Phase, going, ended, limitsOf, root, stacked, begin, spend, doneWith, afterAct, onTop, unit, units, stopped, run, seeds, seededWith, seeded, short, afterSeeding, walkFrom, untouched, walk}
+use Rattle.search.specs.Rooms.{mostPaths, slotWidth}
 use Rattle.enumeration.proofs.Ports.{closed-path}
 use Rattle.enumeration.proofs.Budgets.{walkIn}
 
