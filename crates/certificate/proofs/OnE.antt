@@ -42,7 +42,9 @@ use Rattle.search.proofs.OnE.{unbudgeted-E}
 use Rattle.certificate.specs.Examples.{double, five, four, budget, scores, rooms, fwd, mosaicWords, on, table}
 use Rattle.certificate.specs.Terms.{Within, Admitted, Exhausted, Scores, handedOver, evaluations, keptBy, NativesThenLegal, Least}
 use Rattle.certificate.specs.Demand3.{TiedAre, SameEvaluations}
+use Rattle.certificate.specs.Told.{Told}
 use Rattle.certificate.proofs.Certificate.{demand3}
+use Rattle.certificate.proofs.Told.{rooms-tell}
 
 abbrev nativeE : Assignment
 nativeE = record { family = 0; routes = (fwd 0 0 10 ∷ []) ∷ [] }
@@ -174,3 +176,7 @@ listed-E = rw (admitted-E .panel, admitted-E .budget)
 
 pub listing-E : SameEvaluations panelE default scores rooms 0 lent
 listing-E = demand3 .listing panelE default scores rooms 0 lent searched-E listed-E
+
+-- the rooms at exit tell it
+pub told-E : Told panelE default scores rooms
+told-E = rooms-tell panelE default scores rooms admitted-E exhausted-E

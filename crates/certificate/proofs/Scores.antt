@@ -17,15 +17,15 @@ use Rattle.evaluate.specs.Segments.{Assignment}
 use Rattle.evaluate.specs.Legal.{Legal}
 use Rattle.search.specs.declared.SearchBudget.{SearchBudget}
 use Rattle.search.specs.Run.{nativesOf, walk}
-use Rattle.search.specs.Keep.{Kept, nothing, Evaluated, scoreOf, sameEvaluated, tiedTo, tiesTo, keepAll}
+use Rattle.search.specs.Keep.{Kept, nothing, Evaluated, scoreOf, sameAssignment, sameEvaluated, tiedTo, tiesTo, keepAll}
 use Rattle.search.specs.Search.{walked, keptOf, searchedAs, searchFrom, search}
 use Rattle.search.specs.Answers.{Rooms, searchAnswer}
 use Rattle.evaluate.proofs.Lists.{keep-only, keep-in, pairs-keep, pairs-through, each-mem, each-map, mem-map, mem-map-in}
+use Rattle.search.proofs.Same.{assignments-decide}
 use Rattle.enumeration.proofs.Suffice.{natives-length}
 use Rattle.scoring.proofs.Order.{lt→not-le}
-use Rattle.scoring.proofs.Rule.{Finite, champion, champion-least, champion-one, incumbent, scoring, firsts}
+use Rattle.scoring.proofs.Rule.{Finite, champion, champion-least, champion-one, incumbent, scoring, firsts, tied-from}
 use Rattle.scoring.proofs.Firsts.{firsts-only, firsts-all, firsts-once, firsts-ahead, Ahead, Other}
-use Rattle.scoring.proofs.Same.{same-told, same-tells}
 use Rattle.certificate.specs.Terms.{Admitted, Exhausted, Scores, evaluations, handedOver, keptBy, NativesThenLegal, Least, Ties, NoTwo, Earlier, assignmentOf}
 use Rattle.certificate.specs.Demand3.{AllScored, IncumbentIsLeast, TiedAre, TiedAreAll}
 use Rattle.certificate.proofs.Reply.{finite-scores, all-evaluated, certified-exhausted, certified-whole}
@@ -47,6 +47,12 @@ not-lower x y h = go (Ieee.lt x y) refl (Ieee.le y x) refl h
 
 -- ---- evaluations
 
+same-told : (d e : Evaluated) → sameEvaluated d e ≡ true → d .assignment ≡ e .assignment
+same-told d e = assignments-decide .is (d .assignment) (e .assignment)
+
+same-tells : (d e : Evaluated) → d .assignment ≡ e .assignment → sameEvaluated d e ≡ true
+same-tells d e q = ap (sameAssignment (d .assignment)) (sym q) ∙ assignments-decide .self (d .assignment)
+
 map-append : {A B : Type 0} (f : A → B) (l m : List A) → map f (l ++ m) ≡ map f l ++ map f m
 map-append f [] m = refl
 map-append f (a ∷ l) m = ap (λ x. f a ∷ x) (map-append f l m)
@@ -63,8 +69,14 @@ module _ (s : List ℕ) (b : SearchBudget) (xs : List Float) (rooms : Rooms) (gi
   finites = each-map (λ (e : Evaluated). finite (e .score) ≡ true) (Finite scoreOf) (λ e q. is-T (finite (e .score)) q) (evaluations s b xs) (finite-scores (handedOver s b) xs (given .scored))
 
   -- an evaluation is of something handed over
-  handed-of : (e : Evaluated) → List·Memᴰ e (evaluations s b xs) → List·Memᴰ (e .assignment) (handedOver s b)
+  pub handed-of : (e : Evaluated) → List·Memᴰ e (evaluations s b xs) → List·Memᴰ (e .assignment) (handedOver s b)
   handed-of e m = subst (λ (l : List Assignment). List·Memᴰ (e .assignment) l) made (mem-map-in assignmentOf m)
+
+  -- discarded or not, what is tied was evaluated
+  pub tied-evaluated : (e : Evaluated) → List·Memᴰ e (keptBy s b xs .tied) → List·Memᴰ e (evaluations s b xs)
+  tied-evaluated e m =
+      ⊎-elim (λ k. absurd (List·Memᴰ·not-nil k)) (λ k. k)
+      (tied-from scoreOf sameEvaluated (b .«max_optima») (b .«tie_width») nothing (evaluations s b xs) e (subst (λ (k : Kept Evaluated). List·Memᴰ e (k .tied)) kept-is m))
 
   scored-of : (a : Assignment) → List·Memᴰ a (handedOver s b) → (x : Float) × Scores s b xs a x
   scored-of a m =

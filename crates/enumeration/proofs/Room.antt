@@ -17,9 +17,9 @@ use Rattle.evaluate.specs.Segments.{Route, Assignment, flat, clear, whole, nati
 use Rattle.evaluate.specs.Words.{segmentWords, routeWords, encode}
 use Rattle.evaluate.proofs.Lists.{each-append, each-map}
 use Rattle.search.specs.declared.SearchBudget.{SearchBudget}
-use Rattle.search.specs.Walk.{Task, pass, down, give, Place, Frame, Doing, Act, leave, doing, enter, begins, onPath, reach, switched, closes, closed, samePlace, terminalTask, memberTask, onward, outgoing, hubOpen, nextPort, spent, opening, moved, portUnit, hubUnit, unitOf, takesMember}
-use Rattle.search.specs.Run.{Walk, Walked, Ending, exhausted, onEvaluation, onFrontier, Phase, going, ended, Limits, limitsOf, root, stacked, begin, spend, handed, doneWith, afterAct, onTop, unit, units, stopped, run, seeds, seededWith, seeded, short, afterSeeding, walkFrom, untouched, walk}
-use Rattle.search.specs.Rooms.{mostPaths, widthFor, slotWidth}
+use Rattle.search.specs.Walk.{pass, down, give, Place, Frame, Doing, Act, leave, doing, enter, begins, onPath, reach, switched, closes, closed, samePlace, terminalTask, memberTask, onward, outgoing, hubOpen, nextPort, spent, moved, portUnit, hubUnit, unitOf, takesMember}
+use Rattle.search.specs.Run.{Walk, exhausted, onEvaluation, onFrontier, Phase, going, ended, limitsOf, root, stacked, begin, spend, doneWith, afterAct, onTop, unit, units, stopped, run, seeds, seededWith, seeded, short, afterSeeding, walkFrom, untouched, walk}
+use Rattle.search.specs.Rooms.{mostPaths, slotWidth}
 use Rattle.enumeration.proofs.Ports.{closed-path}
 use Rattle.enumeration.proofs.Budgets.{walkIn}
 
@@ -44,16 +44,16 @@ encode-length a = let h = route-words (a .routes) in omega arith
 -- ---- a unit on a frame
 
 -- the route in hand is that of the slot
-abbrev Slotted : Place → Type 0
+abbrev pub Slotted : Place → Type 0
 Slotted a = length (a .routes) ≡ a .slot
 
 -- one piece more at each descent, and one route for each path where it hands over
-abbrev TaskOk : List ℕ → Place → Doing → Type 0
+abbrev pub TaskOk : List ℕ → Place → Doing → Type 0
 TaskOk paths a pass = Unit
 TaskOk paths a (down c) = (length (onPath c) ≡ suc (length (onPath a))) × Slotted c
 TaskOk paths a (give rs) = (length rs ≡ length paths) × (length (flat rs) ≡ suc (length (onPath a)))
 
-abbrev ActOk : List ℕ → Frame → Act → Type 0
+abbrev pub ActOk : List ℕ → Frame → Act → Type 0
 ActOk paths f leave = Unit
 ActOk paths f (doing t g) = TaskOk paths (f .place) t × (g .place ≡ f .place)
 
@@ -85,7 +85,7 @@ module _ (p : Panel) (paths : List ℕ) where
       go true = tt
       go false = (ap length (sym (append-assoc (flat (a .routes)) (a .route) (reach p a out ∷ []))) ∙ simp length-append (omega arith), h)
 
-  unit-ok : (f : Frame) → Slotted (f .place) → ActOk paths f (unitOf p paths f)
+  pub unit-ok : (f : Frame) → Slotted (f .place) → ActOk paths f (unitOf p paths f)
   unfolding unitOf hubUnit portUnit
   unit-ok f h = go (f .terminal) (hubOpen f) (ltb (f .hubNext) (f .hubEnd)) (spent p f) (sameTurn (nextPort p f .reverse) (f .place .reverse))
     where
@@ -106,7 +106,7 @@ module _ (p : Panel) (paths : List ℕ) where
 -- ---- the walk
 
 -- a frame has at most as many pieces as frames stand below it
-abbrev StackOk : List Frame → Type 0
+abbrev pub StackOk : List Frame → Type 0
 StackOk [] = Unit
 StackOk (f ∷ rest) = ((length (onPath (f .place)) ≤ length rest) × Slotted (f .place)) × StackOk rest
 
@@ -118,16 +118,17 @@ most-at (l ∷ ls) (suc f) = let h = most-at ls f in omega arith
 
 module _ (p : Panel) (b : SearchBudget) (room : 0 < b .«max_frontier») where
   -- few routes and few segments
-  record Small (a : Assignment) : Type 0 where
-    routes : length (a .routes) ≤ mostPaths (p .families)
-    segments : length (flat (a .routes)) ≤ max (b .«max_frontier») (mostPaths (p .families))
+  pub record Small (a : Assignment) : Type 0 where
+    pub routes : length (a .routes) ≤ mostPaths (p .families)
+    pub segments : length (flat (a .routes)) ≤ max (b .«max_frontier») (mostPaths (p .families))
 
-  record WalkOk (w : Walk) : Type 0 where
-    frames : StackOk (w .stack)
-    depth : length (w .stack) ≤ b .«max_frontier»
-    out : Each Small (w .out)
+  -- what holds before and after every unit
+  pub record WalkOk (w : Walk) : Type 0 where
+    pub frames : StackOk (w .stack)
+    pub depth : length (w .stack) ≤ b .«max_frontier»
+    pub out : Each Small (w .out)
 
-  begin-ok : (w : Walk) → WalkOk w → WalkOk (walkIn (begin p w))
+  pub begin-ok : (w : Walk) → WalkOk w → WalkOk (walkIn (begin p w))
   unfolding enter
   begin-ok w h = go (ltb (w .families) (length (p .families)))
     where
@@ -135,7 +136,7 @@ module _ (p : Panel) (b : SearchBudget) (room : 0 < b .«max_frontier») where
       go true = record { frames = ((omega arith, refl), tt); depth = room; out = h .out }
       go false = h
 
-  act-ok : (w : Walk) (d : ℕ) (f : Frame) (rest : List Frame) (c : Act) → StackOk (f ∷ rest) → suc (length rest) ≤ b .«max_frontier» → Each Small (w .out) → ActOk (pathsAt p (w .families)) f c
+  pub act-ok : (w : Walk) (d : ℕ) (f : Frame) (rest : List Frame) (c : Act) → StackOk (f ∷ rest) → suc (length rest) ≤ b .«max_frontier» → Each Small (w .out) → ActOk (pathsAt p (w .families)) f c
       → WalkOk (walkIn (afterAct p (limitsOf b) w d rest c))
   unfolding enter
   act-ok w d f [] leave s l o k = begin-ok (doneWith (spend w d [])) (record { frames = tt; depth = omega arith; out = o })
@@ -163,7 +164,7 @@ module _ (p : Panel) (b : SearchBudget) (room : 0 < b .«max_frontier») where
         out = each-append Small (w .out) (record { family = w .families; routes = rs } ∷ []) o (record { routes = omega arith; segments = omega arith }, tt);
       }
 
-  unit-walk-ok : (w : Walk) → WalkOk w → WalkOk (walkIn (unit p (limitsOf b) w))
+  pub unit-walk-ok : (w : Walk) → WalkOk w → WalkOk (walkIn (unit p (limitsOf b) w))
   unit-walk-ok w h = go (leb (b .«max_evaluations») (w .evaluations)) (top (w .stack) (h .frames) (h .depth))
     where
       top : (st : List Frame) → StackOk st → length st ≤ b .«max_frontier» → WalkOk (walkIn (onTop p (limitsOf b) w st))
@@ -174,13 +175,13 @@ module _ (p : Panel) (b : SearchBudget) (room : 0 < b .«max_frontier») where
       go true k = h
       go false k = k
 
-  units-ok : (n : ℕ) (s : Phase) → WalkOk (walkIn s) → WalkOk (walkIn (units p (limitsOf b) n s))
+  pub units-ok : (n : ℕ) (s : Phase) → WalkOk (walkIn s) → WalkOk (walkIn (units p (limitsOf b) n s))
   unfolding units
   units-ok zero s h = h
   units-ok (suc n) (ended e w) h = h
   units-ok (suc n) (going w) h = units-ok n (unit p (limitsOf b) w) (unit-walk-ok w h)
 
-  native-small : (f : ℕ) → Small (nativeOf p f)
+  pub native-small : (f : ℕ) → Small (nativeOf p f)
   native-small f =
       let most = most-at (p .families) f in
       let n : length (map (whole p) (pathsAt p f)) ≡ length (pathsAt p f) = length-map (pathsAt p f) (whole p) in
@@ -216,7 +217,7 @@ module _ (p : Panel) (b : SearchBudget) (room : 0 < b .«max_frontier») where
       go true = stopped-ok (units p (limitsOf b) (b .«max_work» - start .work) (begin p start)) (units-ok (b .«max_work» - start .work) (begin p start) (begin-ok start fine))
       go false = fine
 
-  small-fits : (a : Assignment) → Small a → length (encode a) ≤ slotWidth p b
+  pub small-fits : (a : Assignment) → Small a → length (encode a) ≤ slotWidth p b
   unfolding slotWidth
   small-fits a h =
       let n = encode-length a in

@@ -3,7 +3,7 @@ use Prim.Native.Nat.{ℕ}
 use mathlib.Core.Path.{_≡_, refl, sym, ap, _∙_, subst}
 use mathlib.Core.Logic.{_⊎_, inl, inr, ⊎-elim}
 use mathlib.Core.Bool.{Bool, true, false, not, _&&_, _||_, true≢false}
-use mathlib.Core.List.{List, [], _∷_, _++_, append-nil, List·Memᴰ, List·Memᴰ·head, List·Memᴰ·tail, List·Memᴰ·not-nil, List·Memᴰ·cases-cons, List·Memᴰ·append-cases}
+use mathlib.Core.List.{List, [], _∷_, _++_, append-nil, List·Memᴰ, List·Memᴰ·head, List·Memᴰ·tail, List·Memᴰ·not-nil, List·Memᴰ·cases-cons, List·Memᴰ·eq-of-singleton, List·Memᴰ·append-cases}
 use lib.Dec.{T, ltb}
 use lib.ListN.{length}
 use lib.Ieee as Ieee
@@ -11,7 +11,7 @@ use lib.Ieee.{Float, binary64}
 use lib.Ieee.Scale.{finite}
 use Rattle.ground.specs.Lists.{pick, any, keep, consIf}
 use Rattle.evaluate.specs.Properties.{Each}
-use Rattle.evaluate.proofs.Lists.{each-append}
+use Rattle.evaluate.proofs.Lists.{each-append, keep-only}
 use Rattle.search.specs.Keep.{Kept, nothing, tiedTo, lowers, near, tiesTo, has, adding, replaced, lowered, added, keepOne, keepAll}
 use Rattle.scoring.proofs.Order.{lt→le, not-lt→le, le-trans-float}
 use Rattle.scoring.proofs.Sub.{fin-refl, finite-real, stays-over}
@@ -284,3 +284,31 @@ module _ {A : Type 0} (score : A → Float) (same : A → A → Bool) (m : ℕ) 
           ap (λ (t : Kept A). keepAll score same m w t l) s ∙ run-is a (a ∷ []) l (h .0) (h .0, tt) (h .1)
           (λ x y i j. u x y (⊎-elim (λ z. ⊎-elim (λ e. List·Memᴰ·head e) (λ z. absurd (List·Memᴰ·not-nil z)) (List·Memᴰ·cases-cons z)) (λ z. List·Memᴰ·tail z) i) (List·Memᴰ·tail j))
           (sym (ap (λ (t : Kept A). keepAll score same m w t l .discarded) s) ∙ d)
+
+  -- ---- discarded or not, what is in the tied list was offered
+
+  added-from : (a : A) (t : Kept A) (x : A) → List·Memᴰ x (added score same m w a t .tied) → List·Memᴰ x (t .tied) ⊎ (x ≡ a)
+  unfolding added
+  added-from a t x = go (near score w a (t .best) && not (has same a (t .tied))) (ltb (length (t .tied)) m)
+    where
+      go : (b c : Bool) → List·Memᴰ x (pick b (adding c a t) t .tied) → List·Memᴰ x (t .tied) ⊎ (x ≡ a)
+      go true true i = ⊎-elim inl (λ j. inr (List·Memᴰ·eq-of-singleton j)) (List·Memᴰ·append-cases (t .tied) i)
+      go true false i = inl i
+      go false c i = inl i
+
+  lowered-from : (a : A) (t : Kept A) (x : A) → List·Memᴰ x (lowered score same m w a t .tied) → List·Memᴰ x (t .tied)
+  unfolding lowered tiesTo
+  lowered-from a t x = go (lowers score a (t .best))
+    where
+      go : (c : Bool) → List·Memᴰ x (pick c (replaced score w a t) t .tied) → List·Memᴰ x (t .tied)
+      go true i = keep-only (λ y. tiedTo (score a) w (score y)) x (t .tied) i .0
+      go false i = i
+
+  pub tied-from : (t : Kept A) (l : List A) (x : A) → List·Memᴰ x (keepAll score same m w t l .tied) → List·Memᴰ x (t .tied) ⊎ List·Memᴰ x l
+  unfolding keepAll keepOne
+  tied-from t [] x i = inl i
+  tied-from t (a ∷ l) x i =
+      ⊎-elim
+      (λ j. ⊎-elim (λ k. inl (lowered-from a t x k)) (λ e. inr (List·Memᴰ·head e)) (added-from a (lowered score same m w a t) x j))
+      (λ j. inr (List·Memᴰ·tail j))
+      (tied-from (keepOne score same m w t a) l x i)
