@@ -2,3 +2,4 @@ pub mod RoundTrips
 pub mod Bases
 pub mod NormalForm
 pub mod Native
+pub mod CheckLegal
