@@ -31,7 +31,7 @@ and-false false = refl
 
 -- ---- a joined segment meets what one of its two pieces meets
 
-overlap-sym : (s t : Segment) → overlap s t ≡ overlap t s
+pub overlap-sym : (s t : Segment) → overlap s t ≡ overlap t s
 overlap-sym s t = go (eqb (s .source) (t .source)) refl
   where
     turn : (c x y : Bool) → ((c && x) && y) ≡ ((c && y) && x)
