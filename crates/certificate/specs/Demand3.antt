@@ -4,29 +4,37 @@ use mathlib.Core.Path.{_≡_}
 use mathlib.Core.Logic.{_↔_}
 use mathlib.Core.Bool.{Bool, true, false}
 use mathlib.Core.List.{List, [], _∷_, map, List·Memᴰ}
+use lib.ListN.{length}
 use lib.Ieee.{Float}
 use Rattle.image.specs.Panel.{Panel, panelOf}
 use Rattle.evaluate.specs.declared.AssignmentReply.{AssignmentReply}
-use Rattle.evaluate.specs.Segments.{Assignment, normalForm}
+use Rattle.evaluate.specs.Properties.{Pairs}
+use Rattle.evaluate.specs.Segments.{Assignment, normalForm, flat}
 use Rattle.evaluate.specs.Legal.{Legal, SoundSpans}
-use Rattle.evaluate.specs.Check.{checkAnswer}
+use Rattle.evaluate.specs.Check.{checkAnswer, over}
 use Rattle.search.specs.declared.SearchBudget.{SearchBudget}
 use Rattle.search.specs.declared.SearchReply.{SearchReply}
 use Rattle.search.specs.declared.ListReply.{ListReply}
-use Rattle.search.specs.Run.{Unbudgeted, Suffices}
+use Rattle.search.specs.declared.Status.the-variants.{Certified}
+use Rattle.search.specs.Run.{Walk, Unbudgeted, Suffices}
+use Rattle.search.specs.Counters.{statusNumber}
 use Rattle.search.specs.Keep.{Kept, Evaluated}
-use Rattle.search.specs.Answers.{Rooms, ListRooms, searchAnswer, listAnswer, written}
-use Rattle.certificate.specs.Terms.{Accepted, Within, Admitted, Exhausted, handedOver, keptBy, Scores, NativesThenLegal, Least, Ties, NoTwo, assignmentOf}
+use Rattle.search.specs.Answers.{Rooms, ListRooms, searchAnswer, listAnswer, listRooms, written}
+use Rattle.certificate.specs.Terms.{PanelAccepted, Within, Admitted, Exhausted, handedOver, keptBy, Scores, NativesThenLegal, Least, Ties, NoTwo, Earlier, assignmentOf}
 
 -- The check accepts an assignment exactly when its spans are sound and its normal form is legal.
 abbrev pub CheckIsLegality : Type 0
 CheckIsLegality =
-    (s ws : List ℕ) (room : ℕ) (a : Assignment) → Accepted s → Within ws room a
+    (s ws : List ℕ) (room : ℕ) (a : Assignment) → PanelAccepted s → Within ws room a
     → (checkAnswer s ws room .refusal ≡ 0) ↔ (SoundSpans (panelOf s) a × Legal (panelOf s) (normalForm a))
 
 -- The walk without budgets ends, on every accepted panel.
 abbrev pub WalkEnds : Type 0
-WalkEnds = (s : List ℕ) → Accepted s → Unbudgeted (panelOf s)
+WalkEnds = (s : List ℕ) → PanelAccepted s → Unbudgeted (panelOf s)
+
+-- It hands over one native per family, in order, and after them each legal assignment exactly once, family by family.
+abbrev pub WholeWalk : Type 0
+WholeWalk = (s : List ℕ) → PanelAccepted s → (u : Unbudgeted (panelOf s)) → NativesThenLegal (panelOf s) (u .final .out)
 
 -- The search reports exhaustion exactly when its three budgets suffice.
 abbrev pub ExhaustedWhenEnough : Type 0
@@ -52,27 +60,36 @@ IncumbentIsLeast =
     (s : List ℕ) (b : SearchBudget) (xs : List Float) (rooms : Rooms) → Admitted s b xs rooms
     → Exhausted (searchAnswer s b xs rooms) → (i : Evaluated) × (keptBy s b xs .best ≡ i ∷ []) × Least s b xs i
 
--- If besides nothing was discarded, the tied list holds exactly the legal assignments within the tie width of the incumbent, each once.
+-- If besides nothing was discarded, the tied list holds exactly the legal assignments within the tie width of the incumbent, each once,
+-- in the order in which they were first handed over.
 pub record TiedAre (s : List ℕ) (b : SearchBudget) (xs : List Float) (i : Evaluated) : Type 0 where
   pub exact : (e : Evaluated) → List·Memᴰ e (keptBy s b xs .tied) ↔ Ties s b xs i e
   pub once : NoTwo (map assignmentOf (keptBy s b xs .tied))
+  pub inOrder : Pairs (Earlier (handedOver s b)) (map assignmentOf (keptBy s b xs .tied))
 
 abbrev pub TiedAreAll : Type 0
 TiedAreAll =
     (s : List ℕ) (b : SearchBudget) (xs : List Float) (rooms : Rooms) → Admitted s b xs rooms
-    → searchAnswer s b xs rooms .status ≡ 1 → (i : Evaluated) → keptBy s b xs .best ≡ i ∷ [] → TiedAre s b xs i
+    → searchAnswer s b xs rooms .status ≡ statusNumber Certified → (i : Evaluated) → keptBy s b xs .best ≡ i ∷ [] → TiedAre s b xs i
 
--- The listing makes the search's evaluations, in its order and under its numbers.
+-- The listing makes the search's evaluations, one for each assignment handed over, and writes the words of those from number from + 1 on,
+-- in order, as many as fit.
+pub record SameEvaluations (s : List ℕ) (b : SearchBudget) (xs : List Float) (rooms : Rooms) (from : ℕ) (lent : ListRooms) : Type 0 where
+  pub many : listAnswer s b from lent .evaluations ≡ searchAnswer s b xs rooms .evaluations
+  pub numbered : listAnswer s b from lent .evaluations ≡ length (handedOver s b)
+  pub wrote : listAnswer s b from lent .written ≡ length (written from (length (lent .out)) (handedOver s b))
+  pub words : listRooms s b from lent .out ≡ over (flat (written from (length (lent .out)) (handedOver s b))) (lent .out)
+
 abbrev pub ListsTheSame : Type 0
 ListsTheSame =
     (s : List ℕ) (b : SearchBudget) (xs : List Float) (rooms : Rooms) (from : ℕ) (lent : ListRooms)
-    → searchAnswer s b xs rooms .refusal ≡ 0 → listAnswer s b from lent .refusal ≡ 0
-    → listAnswer s b from lent .evaluations ≡ searchAnswer s b xs rooms .evaluations
+    → searchAnswer s b xs rooms .refusal ≡ 0 → listAnswer s b from lent .refusal ≡ 0 → SameEvaluations s b xs rooms from lent
 
 -- All of it.
 pub record Demand3 : Type 0 where
   pub check : CheckIsLegality
   pub ends : WalkEnds
+  pub whole : WholeWalk
   pub exhausted : ExhaustedWhenEnough
   pub evaluated : AllEvaluated
   pub scored : AllScored

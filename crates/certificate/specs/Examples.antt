@@ -1,20 +1,23 @@
 -- The proved examples P1 to P11 (01, "Proved examples"), in one table, on panel E's own bytes, with budgets and scores as doubles.
 use Prim.Native.Nat.{ℕ, zero, suc, _+_, _*_, _-_, _/_, min, max}
-use mathlib.Core.Path.{_≡_, refl}
-use mathlib.Core.Bool.{Bool, true, false}
+use native.Mathlib.Omega.{arith}
+use mathlib.Core.Path.{_≡_, refl, ap, _∙_}
+use mathlib.Core.Bool.{Bool, true, false, _&&_}
 use mathlib.Core.List.{List, [], _∷_, _++_, map}
+use lib.Dec.{eqb}
+use borrow.Author.Tests.{ne-eqb}
 use lib.ListN.{length, take, drop, set, replicate}
 use lib.IntN.{pos, negsuc}
 use lib.Ieee as Ieee
 use lib.Ieee.{Float, nan, inf, fin, binary64}
-use Rattle.ground.specs.Lists.{each, split, sum, all, any, count, keep, after, rising, numbersFrom, distinct}
+use Rattle.ground.specs.Lists.{pick, each, split, sum, all, any, count, keep, after, rising, numbersFrom, distinct}
 use Rattle.storage.specs.Bytes.{little, number}
 use Rattle.storage.specs.Records.{portOf, padded, cutAs, cutOf, standsAt}
 use Rattle.storage.specs.declared.Port.{Port}
 use Rattle.storage.specs.Orders.{wordOrder, portOrder, bucketOf, wordBelow, wordUpTo}
 use Rattle.image.specs.Header.{headerOf, sound2, sound3, opened}
 use Rattle.image.specs.Image.{entryOf, entries, counts, pathCounts, paths, lanePorts, hub, portsOf, startOf, families, pathsOf}
-use Rattle.image.specs.Panel.{Panel, PanelLane, zipLanes, panelBy, panelOf}
+use Rattle.image.specs.Panel.{Panel, PanelLane, laneAt, zipLanes, panelBy, panelOf}
 use Rattle.families.specs.Families.{countOk, names, noTwice, sound5a, sound5b, sound5}
 use Rattle.panel.specs.Refusals.{lengthOk, sound4, letter, soundPlace, soundRecord, soundRecords, hubRising, laneRising, lanesRising, listed, sound8, from, ownRow, ownRows, sound6, sound7}
 use Rattle.storage.specs.Orders.{placeOf, placeLt, recordLt, samePort}
@@ -23,17 +26,18 @@ use Rattle.evaluate.specs.declared.Segment.{Segment}
 use Rattle.graph.specs.PanelE.{panelE}
 use Rattle.graph.specs.Check.{panelRefusal}
 use Rattle.evaluate.specs.Segments.{Route, joining, normalize, overlap}
+use Rattle.storage.specs.Records.{sameTurn}
 use Rattle.graph.specs.Lookups.{portsAt, bucketLo, bucketHi}
 use Rattle.evaluate.specs.Words.{encode}
 use Rattle.search.specs.declared.SearchBudget.{SearchBudget}
 use Rattle.search.specs.declared.SearchReply.{SearchReply}
-use Rattle.search.specs.Budget.{widthOk, someOfEach, inBounds, budgetRefusal}
+use Rattle.search.specs.Budget.{widthOk, budgetOk, budgetInBounds, budgetRefusal}
 use Rattle.search.specs.Walk.{enter, terminalTask, memberTask, portUnit, hubUnit, unitOf}
 use Rattle.search.specs.Run.{units, run, seeds, seeded, afterSeeding, walkFrom, walk}
 use Rattle.search.specs.Counters.{mostSwitches, tallyOf}
 use Rattle.search.specs.Keep.{Kept, Evaluated, tiesTo, lowered, added, keepOne, keepAll, sameList, evaluated, scoresRefusal}
 use Rattle.search.specs.Search.{State, Searched, walked, evaluationRefusal, keptOf, searchedAs, searchFrom, search}
-use Rattle.search.specs.Rooms.{stackWords, framesLeft, mostPaths, slotWidth, keptLeft, scoresLeftIn, roomsRefusal, leftIn}
+use Rattle.search.specs.Rooms.{stackWords, framesLeft, mostPaths, slotWidth, keptLeft, keptScoresLeft, roomsRefusal, leftIn}
 use Rattle.search.specs.Answers.{Rooms, searchRefusal, replyOf, searchAnswer, roomsAfter, searchRooms}
 
 -- ---- how the rows are written
@@ -86,7 +90,7 @@ pub record Answers : Type 0 where
   pub kept : SearchBudget → Kept Evaluated
 
 unfoldable pub on : List ℕ → Answers
-unfolding little number each split sum all any count keep after rising numbersFrom distinct portOf wordOrder portOrder headerOf sound2 sound3 opened entryOf entries counts pathCounts paths lanePorts hub portsOf startOf families pathsOf zipLanes panelBy panelOf countOk names noTwice sound5a sound5b sound5 lengthOk sound4 letter soundPlace soundRecord soundRecords placeOf placeLt recordLt hubRising laneRising lanesRising samePort listed sound8 from ownRow ownRows sound6 sound7 portsChecked later checked panelE panelRefusal joining portsAt standsAt encode widthOk someOfEach inBounds budgetRefusal enter terminalTask memberTask portUnit hubUnit unitOf units run seeds seeded afterSeeding walkFrom walk mostSwitches tallyOf tiesTo lowered added keepOne keepAll sameList evaluated scoresRefusal walked evaluationRefusal keptOf searchedAs searchFrom search stackWords framesLeft mostPaths slotWidth keptLeft scoresLeftIn roomsRefusal leftIn searchRefusal replyOf searchAnswer roomsAfter searchRooms bucketOf wordBelow wordUpTo Ieee.lt Ieee.le Ieee.sub Ieee.ofBits
+unfolding little number each split sum all any count keep after rising numbersFrom distinct portOf wordOrder portOrder headerOf sound2 sound3 opened entryOf entries counts pathCounts paths lanePorts hub portsOf startOf families pathsOf zipLanes panelBy panelOf countOk names noTwice sound5a sound5b sound5 lengthOk sound4 letter soundPlace soundRecord soundRecords placeOf placeLt recordLt hubRising laneRising lanesRising samePort listed sound8 from ownRow ownRows sound6 sound7 portsChecked later checked panelE panelRefusal joining portsAt standsAt encode widthOk budgetOk budgetInBounds budgetRefusal enter terminalTask memberTask portUnit hubUnit unitOf units run seeds seeded afterSeeding walkFrom walk mostSwitches tallyOf tiesTo lowered added keepOne keepAll sameList evaluated scoresRefusal walked evaluationRefusal keptOf searchedAs searchFrom search stackWords framesLeft mostPaths slotWidth keptLeft keptScoresLeft roomsRefusal leftIn searchRefusal replyOf searchAnswer roomsAfter searchRooms bucketOf wordBelow wordUpTo Ieee.lt Ieee.le Ieee.sub Ieee.ofBits
 on s =
     record {
       bucket = λ w. bucketLo (panelOf s) w ∷ bucketHi (panelOf s) w ∷ [];
@@ -122,17 +126,27 @@ nativeWords = 0 ∷ 1 ∷ 1 ∷ 0 ∷ 0 ∷ 10 ∷ 0 ∷ []
 abbrev pub mosaicWords : List ℕ
 mosaicWords = 0 ∷ 1 ∷ 3 ∷ 0 ∷ 0 ∷ 4 ∷ 0 ∷ 1 ∷ 6 ∷ 8 ∷ 0 ∷ 0 ∷ 7 ∷ 10 ∷ 0 ∷ []
 
--- a lane of length 20 with one forward port at anchor 0, k 5
-abbrev pub panel5 : Panel
-panel5 = record { k = 5; lanes = record { len = 20; identity = 0; ports = record { word = padded (replicate 5 65) 5; source = 0; anchor = 0; reverse = false } ∷ [] } ∷ []; families = []; hub = [] }
+-- a forward port of word length 5 has no cut below 2
+no-cut : (r : Bool) (a : ℕ) → (eqb (a + pick r 3 2) 1 && sameTurn r false) ≡ false
+no-cut true a = rw (ne-eqb (a + 3) 1 (omega arith))
+no-cut false a = rw (ne-eqb (a + 2) 1 (omega arith))
+
+none-at : (l : List Port) → keep (standsAt 5 1 false) l ≡ []
+unfolding keep standsAt
+none-at [] = refl
+none-at (q ∷ l) = rw (no-cut (q .reverse) (q .anchor)) (none-at l)
+
+no-port : (p : Panel) (lane : ℕ) → p .k ≡ 5 → portsAt p lane 1 false ≡ []
+unfolding portsAt
+no-port p lane e = ap (λ (k : ℕ). keep (standsAt k 1 false) (laneAt p lane .ports)) e ∙ none-at (laneAt p lane .ports)
 
 -- ---- the table
 
 pub record Table : Type 0 where
   -- P1 k 5, anchor 7: cuts 9 and 10
   pub p1 : cutAs 5 false 7 ∷ cutAs 5 true 7 ∷ [] ≡ 9 ∷ 10 ∷ []
-  -- P2 k 5, cut 1 forward: no port (and at cut 2 the one declared)
-  pub p2 : length (portsAt panel5 0 1 false) ∷ length (portsAt panel5 0 2 false) ∷ [] ≡ 0 ∷ 1 ∷ []
+  -- P2 k 5, cut 1 forward: no port, on any lane of any panel
+  pub p2 : (p : Panel) (lane : ℕ) → p .k ≡ 5 → portsAt p lane 1 false ≡ []
   -- P3 0-4, 4-8 fit; 0-5, 4-8 don't
   pub p3 : overlap (fwd 0 0 4) (fwd 0 4 8) ∷ overlap (fwd 0 0 5) (fwd 0 4 8) ∷ [] ≡ false ∷ true ∷ []
   -- P4 0-4+, 4-9+ becomes 0-9+; 4-9-, 0-4- becomes 0-9-
@@ -165,7 +179,7 @@ unfolding on keep portsAt standsAt joining encode panelE panelE2 Ieee.ofBits
 table =
     record {
       p1 = refl;
-      p2 = refl;
+      p2 = no-port;
       p3 = refl;
       p4 = refl;
       p5 = refl;

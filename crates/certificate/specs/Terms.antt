@@ -17,8 +17,10 @@ use Rattle.evaluate.specs.Legal.{Legal}
 use Rattle.evaluate.specs.Check.{mostWords}
 use Rattle.search.specs.declared.SearchBudget.{SearchBudget}
 use Rattle.search.specs.declared.SearchReply.{SearchReply}
+use Rattle.search.specs.declared.Status.the-variants.{Certified, SupportIncomplete}
 use Rattle.search.specs.Budget.{budgetRefusal}
 use Rattle.search.specs.Run.{Walk, Walked, walk, nativesOf}
+use Rattle.search.specs.Counters.{statusNumber}
 use Rattle.search.specs.Keep.{Kept, Evaluated, tiedTo, evaluated}
 use Rattle.search.specs.Search.{State, Searched, search}
 use Rattle.search.specs.Rooms.{roomsRefusal}
@@ -27,8 +29,8 @@ use Rattle.search.specs.Answers.{Rooms}
 -- ---- what is given
 
 -- a panel that none of refusals 1 to 8 meets
-abbrev pub Accepted : List ℕ → Type 0
-Accepted s = panelRefusal s ≡ 0
+abbrev pub PanelAccepted : List ℕ → Type 0
+PanelAccepted s = panelRefusal s ≡ 0
 
 -- words of an assignment within 01's bounds, with room for them in out
 pub record Within (ws : List ℕ) (room : ℕ) (a : Assignment) : Type 0 where
@@ -54,7 +56,7 @@ Scores s b xs a x = List·Memᴰ (record { assignment = a; score = x }) (evaluat
 
 -- "an accepted panel, budget and rooms, at least one family, a finite score for every evaluation and equal scores for equal assignments"
 pub record Admitted (s : List ℕ) (b : SearchBudget) (xs : List Float) (rooms : Rooms) : Type 0 where
-  pub panel : Accepted s
+  pub panel : PanelAccepted s
   pub budget : budgetRefusal b ≡ 0
   pub roomy : roomsRefusal (panelOf s) b (length (rooms .frames)) (length (rooms .kept)) (length (rooms .scores)) ≡ 0
   pub families : 0 < length (panelOf s .families)
@@ -65,7 +67,7 @@ pub record Admitted (s : List ℕ) (b : SearchBudget) (xs : List Float) (rooms :
 
 -- the status says that the domain is exhausted, with or without complete support
 abbrev pub Exhausted : SearchReply → Type 0
-Exhausted r = (r .status ≡ 1) ⊎ (r .status ≡ 2)
+Exhausted r = (r .status ≡ statusNumber Certified) ⊎ (r .status ≡ statusNumber SupportIncomplete)
 
 -- no two are equal
 abbrev pub NoTwo : {A : Type 0} → List A → Type 0
@@ -94,6 +96,13 @@ pub record Ties (s : List ℕ) (b : SearchBudget) (xs : List Float) (i e : Evalu
   pub legal : Legal (panelOf s) (e .assignment)
   pub scores : Scores s b xs (e .assignment) (e .score)
   pub near : tiedTo (i .score) (b .«tie_width») (e .score) ≡ true
+
+-- "in the order in which they were first handed over": a is handed over before c ever is
+pub record Earlier (out : List Assignment) (a c : Assignment) : Type 0 where
+  pub before : List Assignment
+  pub after : List Assignment
+  pub split : out ≡ before ++ (a ∷ after)
+  pub none : List·Memᴰ c before → ⊥
 
 -- the assignment of an evaluation
 abbrev pub assignmentOf : Evaluated → Assignment

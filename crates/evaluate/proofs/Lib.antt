@@ -2,4 +2,5 @@ pub mod RoundTrips
 pub mod Bases
 pub mod NormalForm
 pub mod Native
+pub mod Ports
 pub mod CheckLegal

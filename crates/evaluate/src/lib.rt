@@ -36,6 +36,7 @@ pub struct Refusal {
 }
 
 // What the assignment check answers: the refusal, and how many words of out it wrote.
+#[repr(C)]
 pub struct AssignmentReply {
     pub refusal: u64,
     pub place: u64,

@@ -14,7 +14,7 @@ fn is_count(image: &[u8], h: image::Header, i: usize) -> bool
     requires { ⌜ Framed (now image) h × (i < h .families) ⌝ }
     ensures { λ r. ⌜ r ≡ countOk (getD (pathCounts h (now (image .entry))) i 0) ⌝ }
 {
-    ground::is_within(1, 64, image::path_count(image, h, i))
+    ground::is_within(1, image::Header::PATHS, image::path_count(image, h, i))
 }
 
 fn are_counts(image: &[u8], h: image::Header) -> bool

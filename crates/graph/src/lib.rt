@@ -20,7 +20,11 @@ fn check_ports(image: &[u8], h: image::Header) -> image::Opened
     check_records(image, h, &starts)
 }
 
-fn check_records(image: &[u8], h: image::Header, starts: &[usize; 4096]) -> image::Opened
+fn check_records(
+    image: &[u8],
+    h: image::Header,
+    starts: &[usize; image::Header::LANES],
+) -> image::Opened
     requires { ⌜ Started (now image) h (now starts) ⌝ }
     ensures { λ r. ⌜ r ≡ portsChecked h (now (image .entry)) ⌝ }
 {

@@ -223,14 +223,14 @@ pub fn lane_count(image: &[u8], h: Header, lane: usize) -> usize
     e.count
 }
 
-fn no_starts() -> [usize; 4096]
+fn no_starts() -> [usize; Header::LANES]
     ensures { λ r. ⌜ r ≡ replicate 4096 0 ⌝ }
 {
-    [0usize; 4096]
+    [0usize; Header::LANES]
 }
 
 // Where each lane's list begins among the lane ports.
-pub fn lane_starts(image: &[u8], h: Header) -> [usize; 4096]
+pub fn lane_starts(image: &[u8], h: Header) -> [usize; Header::LANES]
     requires { ⌜ Counted (now image) h ⌝ }
     ensures { λ r. ⌜ Started (now (image .entry)) h r ⌝ }
 {
@@ -248,7 +248,7 @@ pub fn lane_starts(image: &[u8], h: Header) -> [usize; 4096]
 }
 
 // A lane by its number.
-pub fn lane_of(image: &[u8], h: Header, starts: &[usize; 4096], number: usize) -> Lane
+pub fn lane_of(image: &[u8], h: Header, starts: &[usize; Header::LANES], number: usize) -> Lane
     requires { ⌜ Started (now image) h (now starts) × (number < h .lanes) ⌝ }
     ensures { λ r. ⌜ Stands (now (image .entry)) h r × (r .number ≡ number) ⌝ }
 {

@@ -1,5 +1,5 @@
 -- Of spans that are not empty, those as given share a base exactly when those of the normal form do.
-use Prim.Native.Nat.{ℕ, suc, _<_}
+use Prim.Native.Nat.{ℕ, zero, suc, _<_}
 use native.Mathlib.Omega.{arith}
 use mathlib.Core.Path.{_≡_, refl, sym, ap, ap₂, _∙_}
 use mathlib.Core.Logic.{_⊎_, inl, inr, ⊎-elim}
@@ -12,13 +12,13 @@ use Rattle.ground.specs.Lists.{pick, all}
 use Rattle.ground.proofs.ListLaws.{both}
 use Rattle.image.specs.Panel.{Panel}
 use Rattle.evaluate.specs.declared.Segment.{Segment}
-use Rattle.evaluate.specs.Refusals.{unless}
+use Rattle.evaluate.specs.Refusals.{unless, at}
+use Rattle.evaluate.specs.declared.Refusal.{Refusal}
 use Rattle.evaluate.specs.Properties.{Each}
 use Rattle.evaluate.specs.Segments.{Route, joinable, joined, joining, normalize, overlap, clear, apart, flat, Holds, Share, SoundSpan, soundSpan}
 use Rattle.evaluate.specs.Check.{isEmpty, normalRefusal, routeRefusal, routesRefusal}
 use Rattle.evaluate.proofs.Bases.{overlap-share, share-overlap, sound-iff}
 use Rattle.evaluate.proofs.NormalForm.{Filled, Joins, joins, end-to-end, joined-some, joined-holds}
-use Rattle.evaluate.proofs.CheckLegal.{unless-none, at-none}
 use Rattle.overlap.proofs.Laws.{clear-append}
 
 and-assoc : (a b c : Bool) → ((a && b) && c) ≡ (a && (b && c))
@@ -198,6 +198,14 @@ apart-given (r ∷ rs) h =
     ∙ behind r (flat (map normalize rs)) (flat rs) (h .0) (λ u hu. clear-flat u hu rs (h .1)) (apart-given rs (h .1))
 
 -- ---- where no route is refused, no span is empty
+
+unless-none : (b : Bool) (n m : ℕ) → unless b (suc n) m ≡ 0 → (b ≡ true) × (m ≡ 0)
+unless-none true n m e = (refl, e)
+unless-none false n m e = let z : suc n ≡ 0 = e in let x : ⊥ = omega arith in absurd x
+
+at-none : (n i : ℕ) (r : Refusal) → at n i r .number ≡ 0 → (n ≡ 0) × (r .number ≡ 0)
+at-none zero i r e = (refl, e)
+at-none (suc n) i r e = let z : suc n ≡ 0 = e in let x : ⊥ = omega arith in absurd x
 
 module _ (p : Panel) where
   sound-filled : (r : Route) → all (soundSpan p) r ≡ true → Filled r

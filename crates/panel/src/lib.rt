@@ -184,7 +184,12 @@ fn is_own(image: &[u8], h: image::Header, l: image::Lane) -> bool
     true
 }
 
-fn is_own_at(image: &[u8], h: image::Header, starts: &[usize; 4096], lane: usize) -> bool
+fn is_own_at(
+    image: &[u8],
+    h: image::Header,
+    starts: &[usize; image::Header::LANES],
+    lane: usize,
+) -> bool
     requires { ⌜ Started (now image) h (now starts) × (lane < h .lanes) ⌝ }
     ensures { λ r. ⌜ r ≡ ownRow h (now (image .entry)) (getD (numbersFrom 0 (h .lanes)) lane 0) ⌝ }
 {
@@ -192,7 +197,7 @@ fn is_own_at(image: &[u8], h: image::Header, starts: &[usize; 4096], lane: usize
     is_own(image, h, l)
 }
 
-fn are_own(image: &[u8], h: image::Header, starts: &[usize; 4096]) -> bool
+fn are_own(image: &[u8], h: image::Header, starts: &[usize; image::Header::LANES]) -> bool
     requires { ⌜ Started (now image) h (now starts) ⌝ }
     ensures { λ r. ⌜ r ≡ ownRows h (now (image .entry)) ⌝ }
 {
@@ -208,7 +213,7 @@ fn are_own(image: &[u8], h: image::Header, starts: &[usize; 4096]) -> bool
     true
 }
 
-pub fn are_sound(image: &[u8], h: image::Header, starts: &[usize; 4096]) -> bool
+pub fn are_sound(image: &[u8], h: image::Header, starts: &[usize; image::Header::LANES]) -> bool
     requires { ⌜ Started (now image) h (now starts) ⌝ }
     ensures { λ r. ⌜ r ≡ sound6 h (now (image .entry)) ⌝ }
 {
@@ -263,7 +268,12 @@ fn is_lane_rising(image: &[u8], h: image::Header, l: image::Lane) -> bool
     true
 }
 
-fn is_number_rising(image: &[u8], h: image::Header, starts: &[usize; 4096], lane: usize) -> bool
+fn is_number_rising(
+    image: &[u8],
+    h: image::Header,
+    starts: &[usize; image::Header::LANES],
+    lane: usize,
+) -> bool
     requires { ⌜ Started (now image) h (now starts) × (lane < h .lanes) ⌝ }
     ensures { λ r. ⌜ r ≡ laneRising (portsOf h (now (image .entry)) lane) ⌝ }
 {
@@ -271,7 +281,7 @@ fn is_number_rising(image: &[u8], h: image::Header, starts: &[usize; 4096], lane
     is_lane_rising(image, h, l)
 }
 
-fn are_lanes_rising(image: &[u8], h: image::Header, starts: &[usize; 4096]) -> bool
+fn are_lanes_rising(image: &[u8], h: image::Header, starts: &[usize; image::Header::LANES]) -> bool
     requires { ⌜ Started (now image) h (now starts) ⌝ }
     ensures { λ r. ⌜ r ≡ lanesRising h (now (image .entry)) ⌝ }
 {
@@ -287,7 +297,7 @@ fn are_lanes_rising(image: &[u8], h: image::Header, starts: &[usize; 4096]) -> b
     true
 }
 
-pub fn are_rising(image: &[u8], h: image::Header, starts: &[usize; 4096]) -> bool
+pub fn are_rising(image: &[u8], h: image::Header, starts: &[usize; image::Header::LANES]) -> bool
     requires { ⌜ Started (now image) h (now starts) ⌝ }
     ensures { λ r. ⌜ r ≡ sound7 h (now (image .entry)) ⌝ }
 {
@@ -321,7 +331,12 @@ pub fn places_before(
 }
 
 // Whether a global record is in its lane's list.
-fn is_listed(image: &[u8], h: image::Header, starts: &[usize; 4096], g: storage::Port) -> bool
+fn is_listed(
+    image: &[u8],
+    h: image::Header,
+    starts: &[usize; image::Header::LANES],
+    g: storage::Port,
+) -> bool
     requires { ⌜ Started (now image) h (now starts) × (lanesRising h (now image) ≡ true) × (g .source < h .lanes) ⌝ }
     ensures { λ r. ⌜ r ≡ listed h (now (image .entry)) g ⌝ }
 {
@@ -335,7 +350,12 @@ fn is_listed(image: &[u8], h: image::Header, starts: &[usize; 4096], g: storage:
     }
 }
 
-fn is_listed_at(image: &[u8], h: image::Header, starts: &[usize; 4096], i: usize) -> bool
+fn is_listed_at(
+    image: &[u8],
+    h: image::Header,
+    starts: &[usize; image::Header::LANES],
+    i: usize,
+) -> bool
     requires { ⌜ Ordered (now image) h × Started (now image) h (now starts) × (i < h .ports) ⌝ }
     ensures { λ r. ⌜ r ≡ listed h (now (image .entry)) (getD (hub h (now (image .entry))) i noPort) ⌝ }
 {
@@ -343,7 +363,7 @@ fn is_listed_at(image: &[u8], h: image::Header, starts: &[usize; 4096], i: usize
     is_listed(image, h, starts, g)
 }
 
-pub fn are_listed(image: &[u8], h: image::Header, starts: &[usize; 4096]) -> bool
+pub fn are_listed(image: &[u8], h: image::Header, starts: &[usize; image::Header::LANES]) -> bool
     requires { ⌜ Ordered (now image) h × Started (now image) h (now starts) ⌝ }
     ensures { λ r. ⌜ r ≡ sound8 h (now (image .entry)) ⌝ }
 {

@@ -23,7 +23,7 @@ use Rattle.search.specs.Run.{Walk, Walked, Ending, exhausted, onWork, on
 use Rattle.search.specs.Counters.{stopOf, statusOf, statusNumber}
 use Rattle.search.specs.Keep.{Kept}
 use Rattle.search.specs.Search.{State, Searched, fresh, search, evaluationRefusal, statusAfter}
-use Rattle.search.specs.Rooms.{framesNeeded, keptNeeded, scoresNeeded, slotWidth, framesLeft, keptLeft, scoresLeftIn, roomsRefusal, listRoomsRefusal, leftIn}
+use Rattle.search.specs.Rooms.{framesNeeded, keptNeeded, scoresNeeded, slotWidth, framesLeft, keptLeft, keptScoresLeft, roomsRefusal, listRoomsRefusal, leftIn}
 
 -- 1 where a child is pending
 abbrev pub isPending : Ending → Bool
@@ -103,7 +103,7 @@ roomsAfter p b number r rooms =
     record {
       frames = leftIn number (framesLeft b (r .ending) (r .state .stack)) (replicate (framesNeeded b) 0) (rooms .frames);
       kept = leftIn number (keptLeft p b (r .state .kept)) (replicate (keptNeeded p b) 0) (rooms .kept);
-      scores = leftIn number (scoresLeftIn b (r .state .kept)) (replicate (scoresNeeded b) zeroScore) (rooms .scores);
+      scores = leftIn number (keptScoresLeft b (r .state .kept)) (replicate (scoresNeeded b) zeroScore) (rooms .scores);
     }
 
 unfoldable pub searchRooms : List ℕ → SearchBudget → List Float → Rooms → Rooms

@@ -25,12 +25,12 @@ unfoldable pub widthOk : Float → Bool
 widthOk w = finite w && Ieee.le zeroScore w
 
 -- 11: "a whole budget is 0", or the tie width
-unfoldable pub someOfEach : SearchBudget → Bool
-someOfEach b = ltb 0 (b .«max_work») && ltb 0 (b .«max_evaluations») && ltb 0 (b .«max_frontier») && ltb 0 (b .«max_optima») && widthOk (b .«tie_width»)
+unfoldable pub budgetOk : SearchBudget → Bool
+budgetOk b = ltb 0 (b .«max_work») && ltb 0 (b .«max_evaluations») && ltb 0 (b .«max_frontier») && ltb 0 (b .«max_optima») && widthOk (b .«tie_width»)
 
 -- 12: "max_frontier or max_optima over its bound"
-unfoldable pub inBounds : SearchBudget → Bool
-inBounds b = leb (b .«max_frontier») mostFrontier && leb (b .«max_optima») mostOptima
+unfoldable pub budgetInBounds : SearchBudget → Bool
+budgetInBounds b = leb (b .«max_frontier») mostFrontier && leb (b .«max_optima») mostOptima
 
 unfoldable pub budgetRefusal : SearchBudget → ℕ
-budgetRefusal b = unless (someOfEach b) 11 (unless (inBounds b) 12 0)
+budgetRefusal b = unless (budgetOk b) 11 (unless (budgetInBounds b) 12 0)

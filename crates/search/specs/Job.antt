@@ -13,7 +13,7 @@ use Rattle.evaluate.specs.declared.Refusal.{Refusal}
 use Rattle.search.specs.declared.SearchBudget.{SearchBudget}
 use Rattle.search.specs.Budget.{zeroScore}
 use Rattle.search.specs.Search.{search}
-use Rattle.search.specs.Rooms.{frameWidth}
+use Rattle.search.specs.Rooms.{frameWidth, widthFor}
 use Rattle.search.specs.Answers.{Rooms, searchRefusal}
 use Rattle.search.specs.Sheet.{sheet, refusalLine}
 
@@ -70,9 +70,22 @@ unfoldable pub scoresIn : List ℕ → List Float
 scoresIn s = map doubleOf (each number 8 (scoreCount s) (drop (24 + panelBytes s + 8 * budgetWords s) s))
 
 -- "Its rooms are those for max_frontier 32, max_optima 16, P 8."
+abbrev pub programFrontier : ℕ
+programFrontier = 32
+
+abbrev pub programOptima : ℕ
+programOptima = 16
+
+abbrev pub programPaths : ℕ
+programPaths = 8
+
 unfoldable pub programRooms : Rooms
 programRooms =
-    record { frames = replicate (33 * frameWidth) 0; kept = replicate (18 * (2 + 8 + 4 * 32)) 0; scores = replicate 17 zeroScore }
+    record {
+      frames = replicate ((programFrontier + 1) * frameWidth) 0;
+      kept = replicate ((programOptima + 2) * widthFor programPaths programFrontier) 0;
+      scores = replicate (programOptima + 1) zeroScore;
+    }
 
 -- "16 goes first"
 unfoldable pub jobRefusal : List ℕ → Refusal

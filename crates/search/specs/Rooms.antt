@@ -69,8 +69,11 @@ mostPaths [] = 0
 mostPaths (paths ∷ l) = max (length paths) (mostPaths l)
 
 -- "R the larger of max_frontier and P", "V = 2 + P + 4R words"
+abbrev pub widthFor : ℕ → ℕ → ℕ
+widthFor paths frontier = 2 + paths + 4 * max frontier paths
+
 unfoldable pub slotWidth : Panel → SearchBudget → ℕ
-slotWidth p b = 2 + mostPaths (p .families) + 4 * max (b .«max_frontier») (mostPaths (p .families))
+slotWidth p b = widthFor (mostPaths (p .families)) (b .«max_frontier»)
 
 -- an assignment in its slot of v words
 abbrev pub slotWords : ℕ → Evaluated → List ℕ
@@ -93,8 +96,8 @@ scoresNeeded b = b .«max_optima» + 1
 abbrev pub padScores : ℕ → List Float → List Float
 padScores n l = l ++ replicate (n - length l) zeroScore
 
-unfoldable pub scoresLeftIn : SearchBudget → Kept Evaluated → List Float
-scoresLeftIn b k = padScores (scoresNeeded b) (padScores 1 (map scoreOf (k .best)) ++ map scoreOf (k .tied))
+unfoldable pub keptScoresLeft : SearchBudget → Kept Evaluated → List Float
+keptScoresLeft b k = padScores (scoresNeeded b) (padScores 1 (map scoreOf (k .best)) ++ map scoreOf (k .tied))
 
 -- ---- 13, and a room at exit
 

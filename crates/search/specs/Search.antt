@@ -42,12 +42,12 @@ unfoldable pub walked : Panel → SearchBudget → State → Walked
 walked p b st = walkFrom p b (walkOf st)
 
 -- the scores that are still to come
-abbrev pub scoresLeft : State → List Float → List Float
-scoresLeft st xs = drop (st .tally .evaluations) xs
+abbrev pub scoresToCome : State → List Float → List Float
+scoresToCome st xs = drop (st .tally .evaluations) xs
 
 -- 14 and 15
 unfoldable pub evaluationRefusal : Panel → SearchBudget → List Float → State → Refusal
-evaluationRefusal p b xs st = scoresRefusal (suc (st .tally .evaluations)) (walked p b st .walk .out) (scoresLeft st xs)
+evaluationRefusal p b xs st = scoresRefusal (suc (st .tally .evaluations)) (walked p b st .walk .out) (scoresToCome st xs)
 
 -- how it ended, and where it then stands
 pub record Searched : Type 0 where
@@ -55,7 +55,7 @@ pub record Searched : Type 0 where
   pub state : State
 
 unfoldable pub keptOf : SearchBudget → List Float → State → Walk → Kept Evaluated
-keptOf b xs st w = keepAll scoreOf sameEvaluated (b .«max_optima») (b .«tie_width») (st .kept) (evaluated (w .out) (scoresLeft st xs))
+keptOf b xs st w = keepAll scoreOf sameEvaluated (b .«max_optima») (b .«tie_width») (st .kept) (evaluated (w .out) (scoresToCome st xs))
 
 unfoldable pub searchedAs : Panel → SearchBudget → List Float → State → Walked → Searched
 searchedAs p b xs st r =

@@ -27,13 +27,13 @@ use Rattle.evaluate.specs.Check.{leaves, jointRefusal, jointsRefusal, normalRef
 use Rattle.search.specs.declared.SearchBudget.{SearchBudget}
 use Rattle.search.specs.declared.SearchReply.{SearchReply}
 use Rattle.search.specs.declared.ListReply.{ListReply}
-use Rattle.search.specs.Budget.{widthOk, someOfEach, inBounds, budgetRefusal}
+use Rattle.search.specs.Budget.{widthOk, budgetOk, budgetInBounds, budgetRefusal}
 use Rattle.search.specs.Walk.{enter, terminalTask, memberTask, portUnit, hubUnit, unitOf}
 use Rattle.search.specs.Run.{Walk, Phase, going, ended, exhausted, Ending, Unbudgeted, unlimited, units, run, seeds, seeded, afterSeeding, walkFrom, walk, nativesOf, outset, deepest}
 use Rattle.search.specs.Counters.{mostSwitches, tallyOf}
 use Rattle.search.specs.Keep.{tiesTo, lowered, added, keepOne, keepAll, sameList, evaluated, scoresRefusal}
 use Rattle.search.specs.Search.{walked, evaluationRefusal, keptOf, searchedAs, searchFrom, search}
-use Rattle.search.specs.Rooms.{stackWords, framesLeft, mostPaths, slotWidth, keptLeft, scoresLeftIn, roomsRefusal, listRoomsRefusal, leftIn}
+use Rattle.search.specs.Rooms.{stackWords, framesLeft, mostPaths, slotWidth, keptLeft, keptScoresLeft, roomsRefusal, listRoomsRefusal, leftIn}
 use Rattle.search.specs.Sheet.{foreign, digits, routeLines, routesLines, sheet, refusalLine}
 use Rattle.search.specs.Job.{jobOk, budgetIn, scoresIn, programRooms, jobRefusal, printed}
 use Rattle.search.specs.Answers.{Rooms, ListRooms, searchRefusal, replyOf, searchAnswer, roomsAfter, searchRooms, listRefusal, fitting, written, listReplyOf, listAnswer, listedIn, listRooms}
@@ -73,7 +73,7 @@ record Calls : Type 0 where
   print : List ℕ → List ℕ
 
 unfoldable E : Calls
-unfolding little number each split sum all any count keep after rising numbersFrom distinct portOf wordOrder portOrder headerOf sound2 sound3 opened entryOf entries counts pathCounts paths lanePorts hub portsOf startOf families pathsOf zipLanes panelBy panelOf countOk names noTwice sound5a sound5b sound5 lengthOk sound4 letter soundPlace soundRecord soundRecords placeOf placeLt recordLt hubRising laneRising lanesRising samePort listed sound8 from ownRow ownRows sound6 sound7 portsChecked later checked panelE panelRefusal encode widthOk someOfEach inBounds budgetRefusal enter terminalTask memberTask portUnit hubUnit unitOf units run seeds seeded afterSeeding walkFrom walk nativesOf outset deepest mostSwitches tallyOf tiesTo lowered added keepOne keepAll sameList evaluated scoresRefusal walked evaluationRefusal keptOf searchedAs searchFrom search stackWords framesLeft mostPaths slotWidth keptLeft scoresLeftIn roomsRefusal listRoomsRefusal leftIn searchRefusal replyOf searchAnswer roomsAfter searchRooms listRefusal fitting written listReplyOf listAnswer listedIn listRooms bucketOf wordBelow wordUpTo Ieee.lt Ieee.le Ieee.sub Ieee.ofBits foreign digits routeLines routesLines sheet refusalLine jobOk budgetIn scoresIn programRooms jobRefusal printed
+unfolding little number each split sum all any count keep after rising numbersFrom distinct portOf wordOrder portOrder headerOf sound2 sound3 opened entryOf entries counts pathCounts paths lanePorts hub portsOf startOf families pathsOf zipLanes panelBy panelOf countOk names noTwice sound5a sound5b sound5 lengthOk sound4 letter soundPlace soundRecord soundRecords placeOf placeLt recordLt hubRising laneRising lanesRising samePort listed sound8 from ownRow ownRows sound6 sound7 portsChecked later checked panelE panelRefusal encode widthOk budgetOk budgetInBounds budgetRefusal enter terminalTask memberTask portUnit hubUnit unitOf units run seeds seeded afterSeeding walkFrom walk nativesOf outset deepest mostSwitches tallyOf tiesTo lowered added keepOne keepAll sameList evaluated scoresRefusal walked evaluationRefusal keptOf searchedAs searchFrom search stackWords framesLeft mostPaths slotWidth keptLeft keptScoresLeft roomsRefusal listRoomsRefusal leftIn searchRefusal replyOf searchAnswer roomsAfter searchRooms listRefusal fitting written listReplyOf listAnswer listedIn listRooms bucketOf wordBelow wordUpTo Ieee.lt Ieee.le Ieee.sub Ieee.ofBits foreign digits routeLines routesLines sheet refusalLine jobOk budgetIn scoresIn programRooms jobRefusal printed
 E =
     record {
       answer = searchAnswer panelE;

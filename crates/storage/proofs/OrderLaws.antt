@@ -215,7 +215,7 @@ less-of Less e = refl
 less-of Equal e = cc
 less-of Greater e = cc
 
-equal-of : (o : Order) → isEqual o ≡ true → o ≡ Equal
+pub equal-of : (o : Order) → isEqual o ≡ true → o ≡ Equal
 equal-of Less e = cc
 equal-of Equal e = refl
 equal-of Greater e = cc

@@ -1,0 +1,119 @@
+-- What an admitted search answers, in terms of its walk: it is not refused, and its status says how the walk ended.
+use Prim.Native.Nat.{ℕ, suc, _<_}
+use native.Mathlib.Omega.{arith}
+use mathlib.Core.Path.{_≡_, refl, sym, ap, _∙_}
+use mathlib.Core.Logic.{_⊎_, inl, inr, _↔_}
+use mathlib.Core.Bool.{Bool, true, false, _&&_}
+use mathlib.Core.List.{List, [], _∷_, map}
+use lib.Dec.{ltb}
+use lib.ListN.{length, take}
+use lib.Ieee.{Float}
+use lib.Ieee.Scale.{finite}
+use borrow.Author.Tests.{ltb-true}
+use Rattle.ground.proofs.ListLaws.{both}
+use Rattle.image.specs.Panel.{panelOf}
+use Rattle.evaluate.specs.Properties.{Each, Matched}
+use Rattle.evaluate.specs.Refusals.{noRefusal, unless}
+use Rattle.evaluate.specs.Segments.{Assignment}
+use Rattle.search.specs.declared.SearchBudget.{SearchBudget}
+use Rattle.search.specs.declared.SearchReply.{SearchReply}
+use Rattle.search.specs.declared.Status.the-variants.{Certified, SupportIncomplete}
+use Rattle.search.specs.Budget.{widthOk, budgetOk, budgetInBounds, budgetRefusal}
+use Rattle.search.specs.Run.{Ending, exhausted, onWork, onEvaluation, onFrontier, walk}
+use Rattle.search.specs.Counters.{stopOf, statusOf, statusNumber}
+use Rattle.search.specs.Keep.{evaluated, scoresRefusal}
+use Rattle.search.specs.Search.{walked, evaluationRefusal, searchedAs, searchFrom, search}
+use Rattle.search.specs.Answers.{Rooms, searchRefusal, replyOf, searchAnswer}
+use Rattle.certificate.specs.Terms.{FiniteScore, Admitted, Exhausted, keptBy, evaluations, handedOver, assignmentOf}
+
+-- ---- scores
+
+-- each evaluation has a finite score
+pub finite-scores : (out : List Assignment) (xs : List Float) → Matched FiniteScore out (take (length out) xs) → Each (λ e. finite (e .score) ≡ true) (evaluated out xs)
+unfolding evaluated
+finite-scores [] xs h = tt
+finite-scores (a ∷ out) [] h = absurd h
+finite-scores (a ∷ out) (x ∷ xs) h = (h .0, finite-scores out xs (h .1))
+
+-- the evaluations are of what was handed over
+pub all-evaluated : (out : List Assignment) (xs : List Float) → Matched FiniteScore out (take (length out) xs) → map assignmentOf (evaluated out xs) ≡ out
+unfolding evaluated
+all-evaluated [] xs h = refl
+all-evaluated (a ∷ out) [] h = absurd h
+all-evaluated (a ∷ out) (x ∷ xs) h = ap (λ (l : List Assignment). a ∷ l) (all-evaluated out xs (h .1))
+
+none-refused : (n : ℕ) (out : List Assignment) (xs : List Float) → Matched FiniteScore out (take (length out) xs) → scoresRefusal n out xs ≡ noRefusal
+unfolding scoresRefusal
+none-refused n [] xs h = refl
+none-refused n (a ∷ out) [] h = absurd h
+none-refused n (a ∷ out) (x ∷ xs) h = rw (h .0) (none-refused (suc n) out xs (h .1))
+
+-- ---- statuses
+
+ended-status : (e : Ending) (d : Bool)
+    → ((statusNumber (statusOf (stopOf e) d) ≡ statusNumber Certified) ⊎ (statusNumber (statusOf (stopOf e) d) ≡ statusNumber SupportIncomplete)) ↔ (e ≡ exhausted)
+ended-status exhausted true = (λ h. refl, λ q. inr refl)
+ended-status exhausted false = (λ h. refl, λ q. inl refl)
+ended-status onWork d = (go, λ q. let z : _≡_ {A = ℕ} 0 1 = cc in absurd (omega arith))
+  where
+    go : (_≡_ {A = ℕ} 3 1) ⊎ (_≡_ {A = ℕ} 3 2) → onWork ≡ exhausted
+    go (inl q) = absurd (omega arith)
+    go (inr q) = absurd (omega arith)
+ended-status onEvaluation d = (go, λ q. let z : _≡_ {A = ℕ} 0 1 = cc in absurd (omega arith))
+  where
+    go : (_≡_ {A = ℕ} 4 1) ⊎ (_≡_ {A = ℕ} 4 2) → onEvaluation ≡ exhausted
+    go (inl q) = absurd (omega arith)
+    go (inr q) = absurd (omega arith)
+ended-status (onFrontier a) d = (go, λ q. let z : _≡_ {A = ℕ} 0 1 = cc in absurd (omega arith))
+  where
+    go : (_≡_ {A = ℕ} 5 1) ⊎ (_≡_ {A = ℕ} 5 2) → onFrontier a ≡ exhausted
+    go (inl q) = absurd (omega arith)
+    go (inr q) = absurd (omega arith)
+
+certified-status : (e : Ending) (d : Bool) → statusNumber (statusOf (stopOf e) d) ≡ statusNumber Certified → d ≡ false
+certified-status exhausted true q = absurd (omega arith)
+certified-status exhausted false q = refl
+certified-status onWork d q = absurd (omega arith)
+certified-status onEvaluation d q = absurd (omega arith)
+certified-status (onFrontier a) d q = absurd (omega arith)
+
+-- ---- budgets
+
+unless-none : (t : Bool) (n later : ℕ) → unless t (suc n) later ≡ 0 → t ≡ true
+unless-none true n later e = refl
+unless-none false n later e = absurd (omega arith)
+
+pub some-frontier : (b : SearchBudget) → budgetRefusal b ≡ 0 → 0 < b .«max_frontier»
+unfolding budgetRefusal budgetOk
+some-frontier b e =
+    let ok : budgetOk b ≡ true = unless-none (budgetOk b) 10 (unless (budgetInBounds b) 12 0) e in
+    let w = ltb 0 (b .«max_work») in
+    let v = ltb 0 (b .«max_evaluations») in
+    let f = ltb 0 (b .«max_frontier») in
+    let o = ltb 0 (b .«max_optima») in
+    let (wvfo, t) = both (w && v && f && o) (widthOk (b .«tie_width»)) ok in
+    let (wvf, u) = both (w && v && f) o wvfo in
+    ltb-true 0 (b .«max_frontier») (both (w && v) f wvf .1)
+
+-- ---- the answer
+
+module _ (s : List ℕ) (b : SearchBudget) (xs : List Float) (rooms : Rooms) (given : Admitted s b xs rooms) where
+  reply-is : searchAnswer s b xs rooms ≡ replyOf (search (panelOf s) b xs)
+  unfolding searchAnswer searchRefusal evaluationRefusal walked walk
+  reply-is =
+      let fine : scoresRefusal 1 (walk (panelOf s) b .walk .out) xs ≡ noRefusal = none-refused 1 (handedOver s b) xs (given .scored) in
+      rw (given .panel, given .budget, given .roomy, fine)
+
+  status-is : searchAnswer s b xs rooms .status ≡ statusNumber (statusOf (stopOf (walk (panelOf s) b .ending)) (keptBy s b xs .discarded))
+  unfolding replyOf search searchFrom searchedAs walked walk
+  status-is = ap (λ (r : SearchReply). r .status) reply-is
+
+  -- the search reports exhaustion exactly when its walk ended by itself
+  pub exhausted-iff : Exhausted (searchAnswer s b xs rooms) ↔ (walk (panelOf s) b .ending ≡ exhausted)
+  exhausted-iff = rw status-is (ended-status (walk (panelOf s) b .ending) (keptBy s b xs .discarded))
+
+  pub certified-exhausted : searchAnswer s b xs rooms .status ≡ statusNumber Certified → Exhausted (searchAnswer s b xs rooms)
+  certified-exhausted e = inl e
+
+  pub certified-whole : searchAnswer s b xs rooms .status ≡ statusNumber Certified → keptBy s b xs .discarded ≡ false
+  certified-whole e = certified-status (walk (panelOf s) b .ending) (keptBy s b xs .discarded) (sym status-is ∙ e)

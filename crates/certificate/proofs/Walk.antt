@@ -1,0 +1,71 @@
+-- The walk's part of demand 3: it ends, it reports exhaustion exactly when its budgets suffice, and then it has evaluated one native
+-- per family and after them each legal assignment once.
+use Prim.Native.Nat.{ℕ, zero, suc, _+_, _≤_, _<_}
+use native.Mathlib.Omega.{arith}
+use mathlib.Core.Path.{sym, ap, _∙_, subst}
+use mathlib.Core.Logic.{_⊎_, ⊎-elim}
+use mathlib.Core.List.{List, [], _∷_, List·Memᴰ, List·Memᴰ·not-nil, List·Memᴰ·cases-cons, List·Memᴰ·append-cases}
+use lib.ListN.{length}
+use Rattle.ground.specs.Lists.{numbersFrom}
+use Rattle.image.specs.Panel.{panelOf}
+use Rattle.evaluate.specs.Properties.{Pairs, Neighbours}
+use Rattle.evaluate.specs.Segments.{Assignment, nativeOf}
+use Rattle.evaluate.specs.Legal.{Legal}
+use Rattle.evaluate.proofs.Native.{native-legal}
+use Rattle.search.specs.Run.{Walk, unlimited, walk, nativesOf, outset}
+use Rattle.enumeration.proofs.Lists.{mem-map}
+use Rattle.enumeration.proofs.Accepted.{accepted-ends}
+use Rattle.enumeration.proofs.Suffice.{one-end, ends-iff, ends-as}
+use Rattle.certificate.specs.Terms.{PanelAccepted, NativesThenLegal}
+use Rattle.certificate.specs.Demand3.{WalkEnds, WholeWalk, ExhaustedWhenEnough, AllEvaluated}
+use Rattle.certificate.proofs.Reply.{some-frontier, exhausted-iff}
+
+pub walk-ends : WalkEnds
+walk-ends s e = let r = accepted-ends s e in record { steps = r .run .0; final = r .final; ends = r .run .1 }
+
+pub exhausted-when-enough : ExhaustedWhenEnough
+exhausted-when-enough s b xs rooms given u =
+    let i = exhausted-iff s b xs rooms given in
+    let j = ends-iff (panelOf s) b (given .families) (some-frontier b (given .budget)) u in
+    (λ h. j .0 (i .0 h), λ h. i .1 (j .1 h))
+
+pairs-neighbours : {A : Type 0} (R : A → A → Type 0) (l : List A) → Pairs R l → Neighbours R l
+pairs-neighbours R [] h = tt
+pairs-neighbours R (a ∷ []) h = tt
+pairs-neighbours R (a ∷ b ∷ l) h = (h .0 .0, pairs-neighbours R (b ∷ l) (h .1))
+
+pub whole-walk : WholeWalk
+whole-walk s e u =
+    let r = accepted-ends s e in
+    let same = one-end (panelOf s) unlimited (u .steps) (r .run .0) (outset (panelOf s)) (u .final) (r .final) (u .ends) (r .run .1) in
+    record {
+      found = r .found;
+      first = ap (λ (w : Walk). w .out) same ∙ r .out;
+      legal = λ a. (λ m. r .each .legal a .0 m .legal, λ l. r .each .legal a .1 (record { from = omega arith; legal = l }));
+      once = r .each .once;
+      inOrder = pairs-neighbours (λ (a c : Assignment). a .family ≤ c .family) (r .found) (r .each .inOrder);
+    }
+
+pub all-evaluated-once : AllEvaluated
+all-evaluated-once s b xs rooms given h =
+    let u = walk-ends s (given .panel) in
+    let same = ends-as (panelOf s) b (given .families) (some-frontier b (given .budget)) u (exhausted-iff s b xs rooms given .0 h) in
+    subst (λ (w : Walk). NativesThenLegal (panelOf s) (w .out)) (sym same) (whole-walk s (given .panel) u)
+
+-- ---- whatever was handed over is legal
+
+number-below : (i n j : ℕ) → List·Memᴰ j (numbersFrom i n) → j < i + n
+unfolding numbersFrom
+number-below i zero j m = absurd (List·Memᴰ·not-nil m)
+number-below i (suc n) j m = ⊎-elim (λ e. omega arith) (λ k. let r = number-below (suc i) n j k in omega arith) (List·Memᴰ·cases-cons m)
+
+native-in : (s : List ℕ) → PanelAccepted s → (a : Assignment) → List·Memᴰ a (nativesOf (panelOf s)) → Legal (panelOf s) a
+unfolding nativesOf
+native-in s e a m =
+    let r = mem-map (nativeOf (panelOf s)) (numbersFrom 0 (length (panelOf s .families))) m in
+    let lt : r .0 < length (panelOf s .families) = (let b = number-below 0 (length (panelOf s .families)) (r .0) (r .1) in omega arith) in
+    subst (Legal (panelOf s)) (sym (r .2)) (native-legal s e (r .0) lt)
+
+pub handed-legal : (s : List ℕ) (out : List Assignment) → PanelAccepted s → NativesThenLegal (panelOf s) out → (a : Assignment) → List·Memᴰ a out → Legal (panelOf s) a
+handed-legal s out e n a m =
+    ⊎-elim (λ k. native-in s e a k) (λ k. n .legal a .0 k) (List·Memᴰ·append-cases (nativesOf (panelOf s)) (subst (λ (l : List Assignment). List·Memᴰ a l) (n .first) m))

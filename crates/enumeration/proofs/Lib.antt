@@ -1,0 +1,14 @@
+pub mod Lists
+pub mod Tree
+pub mod Sim
+pub mod Stack
+pub mod Measure
+pub mod Ports
+pub mod Given
+pub mod Legal
+pub mod Once
+pub mod Whole
+pub mod Accepted
+pub mod Budgets
+pub mod Suffice
+pub mod Tally

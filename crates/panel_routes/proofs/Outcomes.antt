@@ -1,0 +1,24 @@
+-- Two outcomes that a promise allows are equal, refusals included: each promise is an equation of the whole reply.
+use Prim.Native.Nat.{ℕ}
+use mathlib.Core.Path.{_≡_, sym, _∙_}
+use mathlib.Core.Bool.{Bool}
+use mathlib.Core.List.{List}
+use Rattle.graph.specs.Check.{checked}
+use Rattle.graph.specs.Lookups.{portAnswer, bucketAnswer}
+use Rattle.panel_routes.specs.Replies.{panelReply, portReply, bucketReply}
+use Rattle.panel_routes.specs.declared.PanelReply.{PanelReply}
+use Rattle.panel_routes.specs.declared.PortReply.{PortReply}
+use Rattle.panel_routes.specs.declared.BucketReply.{BucketReply}
+
+-- what is the same as one thing is the same
+one : {A : Type 0} {a b c : A} → a ≡ c → b ≡ c → a ≡ b
+one p q = p ∙ sym q
+
+pub panel-one : (s : List ℕ) (q r : PanelReply) → q ≡ panelReply (checked s) → r ≡ panelReply (checked s) → q ≡ r
+panel-one s q r = one
+
+pub port-one : (s : List ℕ) (lane cut : ℕ) (reverse : Bool) (q r : PortReply) → q ≡ portReply (portAnswer s lane cut reverse) → r ≡ portReply (portAnswer s lane cut reverse) → q ≡ r
+port-one s lane cut reverse q r = one
+
+pub bucket-one : (s w : List ℕ) (q r : BucketReply) → q ≡ bucketReply (bucketAnswer s w) → r ≡ bucketReply (bucketAnswer s w) → q ≡ r
+bucket-one s w q r = one

@@ -1,0 +1,139 @@
+// The calls that users link: thin functions over the libraries, in C's layout (include/panel_routes.h).
+ghost use mathlib.Core.Path.{_≡_};
+ghost use Rattle.graph.specs.Check.{checked};
+ghost use Rattle.graph.specs.Lookups.{portAnswer, bucketAnswer};
+ghost use lib.ListN.{length};
+ghost use Rattle.evaluate.specs.Check.{checkAnswer, checkOut};
+ghost use Rattle.panel_routes.specs.Replies.{panelReply, portReply, bucketReply};
+
+// Refusal 0: none. Fields that an answer does not use are 0.
+#[repr(C)]
+pub struct PanelReply {
+    pub refusal: u64,
+    pub place: u64,
+}
+
+// Found 0: no port, 1: a port; the word zero-padded.
+#[repr(C)]
+pub struct PortReply {
+    pub refusal: u64,
+    pub place: u64,
+    pub found: u64,
+    pub anchor: u64,
+    pub word: [u8; 32],
+}
+
+#[repr(C)]
+pub struct BucketReply {
+    pub refusal: u64,
+    pub place: u64,
+    pub lo: u64,
+    pub hi: u64,
+}
+
+#[no_mangle]
+pub extern "C" fn panel_routes_check_panel(image: &[u8]) -> PanelReply
+    ensures { λ r. ⌜ r ≡ panelReply (checked (now (image .entry))) ⌝ }
+{
+    match graph::check_panel(image) {
+        image::Opened::Good(_h) => PanelReply {
+            refusal: 0,
+            place: 0,
+        },
+        image::Opened::Refused(n) => PanelReply {
+            refusal: n,
+            place: 0,
+        },
+    }
+}
+
+fn port_reply(found: graph::Found, port: storage::Port) -> PortReply
+    ensures { λ r. ⌜ r ≡ portReply (record { found = found; port = port }) ⌝ }
+{
+    let anchor = port.anchor;
+    let word = port.word;
+    match found {
+        graph::Found::Unsound(n) => PortReply {
+            refusal: n,
+            place: 0,
+            found: 0,
+            anchor,
+            word,
+        },
+        graph::Found::NoLane => PortReply {
+            refusal: 9,
+            place: 0,
+            found: 0,
+            anchor,
+            word,
+        },
+        graph::Found::NoPort => PortReply {
+            refusal: 0,
+            place: 0,
+            found: 0,
+            anchor,
+            word,
+        },
+        graph::Found::Here => PortReply {
+            refusal: 0,
+            place: 0,
+            found: 1,
+            anchor,
+            word,
+        },
+    }
+}
+
+#[no_mangle]
+pub extern "C" fn panel_routes_port_at_cut(
+    image: &[u8],
+    lane: u64,
+    cut: u64,
+    reverse: bool,
+) -> PortReply
+    ensures { λ r. ⌜ r ≡ portReply (portAnswer (now (image .entry)) lane cut reverse) ⌝ }
+{
+    let a = graph::port_at_cut(image, lane, cut, reverse);
+    let found = a.found;
+    let port = a.port;
+    port_reply(found, port)
+}
+
+#[no_mangle]
+pub extern "C" fn panel_routes_hub_bucket(image: &[u8], word: &[u8]) -> BucketReply
+    ensures { λ r. ⌜ r ≡ bucketReply (bucketAnswer (now (image .entry)) (now (word .entry))) ⌝ }
+{
+    match graph::hub_bucket(image, word) {
+        graph::BucketAnswer::BadPanel(n) => BucketReply {
+            refusal: n,
+            place: 0,
+            lo: 0,
+            hi: 0,
+        },
+        graph::BucketAnswer::BadWord => BucketReply {
+            refusal: 10,
+            place: 0,
+            lo: 0,
+            hi: 0,
+        },
+        graph::BucketAnswer::Bucket(b) => BucketReply {
+            refusal: 0,
+            place: 0,
+            lo: b.lo as u64,
+            hi: b.hi as u64,
+        },
+    }
+}
+
+// On acceptance out begins with the normal form, whose length is told; on a refusal it stays.
+#[no_mangle]
+pub extern "C" fn panel_routes_check_assignment(
+    image: &[u8],
+    words: &[u64],
+    out: &mut [u64],
+) -> evaluate::AssignmentReply
+    ensures { λ r. ⌜ r ≡ checkAnswer (now (image .entry)) (now (words .entry)) (length (now (out .entry))) ⌝ }
+    ensures { λ r. ⌜ now (out .exit) ≡ checkOut (now (image .entry)) (now (words .entry)) (now (out .entry)) ⌝ }
+{
+    assignment::check_assignment(image, words, out)
+}

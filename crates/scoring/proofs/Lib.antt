@@ -1,0 +1,5 @@
+pub mod Order
+pub mod Sub
+pub mod Rule
+pub mod Firsts
+pub mod Same

@@ -1,0 +1,100 @@
+//! The six public calls as data: what goes in, and what comes out of the answer and of
+//! every lent room, whole.
+use crate::rules::BudgetWords;
+
+#[derive(Clone, Copy, Debug, PartialEq, Eq)]
+pub enum Kind {
+    Panel = 1,
+    Port = 2,
+    Bucket = 3,
+    Check = 4,
+    List = 5,
+    Search = 6,
+}
+
+pub const KINDS: [Kind; 6] = [Kind::Panel, Kind::Port, Kind::Bucket, Kind::Check, Kind::List, Kind::Search];
+
+impl Kind {
+    pub fn name(self) -> &'static str {
+        ["panel", "port", "bucket", "check", "list", "search"][self as usize - 1]
+    }
+    pub fn named(name: &str) -> Option<Self> {
+        KINDS.into_iter().find(|k| k.name() == name)
+    }
+}
+
+#[derive(Clone, Debug, PartialEq)]
+pub enum Call {
+    Panel,
+    Port {
+        lane: u64,
+        cut: u64,
+        reverse: bool,
+    },
+    Bucket {
+        word: Vec<u8>,
+    },
+    Check {
+        words: Vec<u64>,
+        out: usize,
+    },
+    List {
+        budget: BudgetWords,
+        from: u64,
+        frames: usize,
+        slot: usize,
+        out: usize,
+    },
+    /// Scores and tie width go by their bits.
+    Search {
+        budget: BudgetWords,
+        scores: Vec<u64>,
+        frames: usize,
+        kept: usize,
+        kept_scores: usize,
+    },
+}
+
+impl Call {
+    pub fn kind(&self) -> Kind {
+        match self {
+            Call::Panel => Kind::Panel,
+            Call::Port { .. } => Kind::Port,
+            Call::Bucket { .. } => Kind::Bucket,
+            Call::Check { .. } => Kind::Check,
+            Call::List { .. } => Kind::List,
+            Call::Search { .. } => Kind::Search,
+        }
+    }
+
+    /// The lengths of the rooms that the call lends, in the order of its arguments.
+    pub fn rooms(&self) -> Vec<usize> {
+        match *self {
+            Call::Panel | Call::Port { .. } | Call::Bucket { .. } => vec![],
+            Call::Check { out, .. } => vec![out],
+            Call::List { frames, slot, out, .. } => vec![frames, slot, out],
+            Call::Search { frames, kept, kept_scores, .. } => vec![frames, kept, kept_scores],
+        }
+    }
+}
+
+/// The answer's fields as words in their order, and each room after the call.
+#[derive(Clone, Debug, PartialEq)]
+pub struct Outcome {
+    pub reply: Vec<u64>,
+    pub rooms: Vec<Vec<u64>>,
+}
+
+/// What stands in word i of a room before the call: no word is 0 and no two are equal.
+pub fn filler(i: usize) -> u64 {
+    0xA5A5_5A5A_0000_0001 + i as u64
+}
+
+pub fn filled(words: usize) -> Vec<u64> {
+    (0..words).map(filler).collect()
+}
+
+/// How many words an answer has.
+pub fn reply_words(kind: Kind) -> usize {
+    [2, 8, 4, 3, 6, 16][kind as usize - 1]
+}

@@ -1,0 +1,119 @@
+//! What an outcome shows, by name: for counting what a run met and for choosing records.
+use crate::{
+    calls::{Call, Outcome},
+    judge, rules,
+};
+
+/// The segments of an assignment, each with its slot.
+fn segments(words: &[u64]) -> Vec<(u64, [u64; 4])> {
+    let mut out = Vec::new();
+    let mut at = 2;
+    for slot in 0..words[1] {
+        let n = words[at] as usize;
+        for s in words[at + 1..at + 1 + 4 * n].chunks(4) {
+            out.push((slot, s.try_into().unwrap()));
+        }
+        at += 1 + 4 * n;
+    }
+    out
+}
+
+pub fn of(image: &[u8], call: &Call, o: &Outcome) -> Vec<&'static str> {
+    let mut found = Vec::new();
+    let mut note = |holds: bool, name: &'static str| {
+        if holds {
+            found.push(name);
+        }
+    };
+    let r = &o.reply;
+    if r[0] != 0 {
+        return match (r[0], r[1]) {
+            (25..=30, 1..) => vec!["in a later route"],
+            (14 | 15, 2..) => vec!["in a later evaluation"],
+            _ => vec![],
+        };
+    }
+    match call {
+        Call::Panel => {
+            note(rules::word_at(image, 16) == 0, "no family");
+            note(rules::word_at(image, 32) == 0, "no port");
+        }
+        Call::Port { cut, reverse, .. } => {
+            note(r[2] == 0, "no port there");
+            note(r[2] == 1, "a port");
+            note(r[2] == 1 && *reverse, "a reverse port");
+            note(r[2] == 0 && *cut > u64::MAX / 2, "a huge cut");
+        }
+        Call::Bucket { word } => {
+            note(r[2] == r[3], "an empty bucket");
+            note(r[3] > r[2] + 1, "several members");
+            note(r[2] > 0 && r[3] > r[2], "members behind others");
+            note(word.iter().any(|b| !b"ACGT".contains(b)), "another letter asked for");
+        }
+        Call::Check { words, .. } => {
+            let normal = segments(&o.rooms[0]);
+            note(r[2] < words.len() as u64, "joined");
+            note(normal.len() as u64 > words[1], "legal with a switch");
+            note(normal.iter().any(|(_, s)| s[3] == 1), "legal with a reverse piece");
+            note(words[1] > 1, "several routes");
+        }
+        Call::List { budget, from, .. } => {
+            status(r[2], &mut note);
+            frames(&o.rooms[0][..rules::needs(image, budget).frames], None, &mut note);
+            note(r[3] > 1, "several written");
+            note(r[3] < r[5].saturating_sub(*from), "out was full");
+            note(*from > 0 && r[3] > 0, "from a later one");
+            note(*from >= r[5], "from past the last");
+        }
+        Call::Search { budget, .. } => {
+            status(r[2], &mut note);
+            let needs = rules::needs(image, budget);
+            frames(&o.rooms[0][..needs.frames], Some(r[15] == 1), &mut note);
+            note(r[3] >= 50, "50 units");
+            note(r[3] >= 500, "500 units");
+            note(r[10] > 0, "a switch");
+            note(r[10] > 2, "three switches");
+            note(r[8] < r[7], "a switch within a lane");
+            note(r[9] < r[8], "lanes of one identity");
+            note(r[11] > 0 && r[2] > 2, "stopped in a later family");
+            note(r[12] > 1, "several tied");
+            note(r[13] == 1 && r[2] > 2, "discarded, then stopped");
+            if r[4] == 0 {
+                note(true, "no incumbent");
+                return found;
+            }
+            let incumbent = &o.rooms[1][..needs.slot];
+            let routes = segments(incumbent);
+            note(routes.iter().any(|(_, s)| s[3] == 1), "a reverse piece in the incumbent");
+            note(routes.iter().any(|(slot, _)| *slot > 0), "an incumbent of several routes");
+            let slots = |i: u64| &o.rooms[1][(i as usize) * needs.slot..(i as usize + 1) * needs.slot];
+            let at = (1..=r[12]).find(|i| slots(*i) == incumbent);
+            note(
+                at.is_some_and(|i| o.rooms[2][i as usize] != o.rooms[2][0]),
+                "the incumbent tied by an older score",
+            );
+            note(o.rooms[2][..=r[12] as usize].contains(&(1 << 63)), "-0.0 kept");
+            note(judge::used_words(incumbent) == needs.slot, "a full slot");
+        }
+    }
+    found
+}
+
+fn status(n: u64, note: &mut impl FnMut(bool, &'static str)) {
+    let names = ["certified", "support incomplete", "work", "evaluation", "frontier"];
+    note(true, names[n as usize - 1]);
+}
+
+fn frames(room: &[u64], pending: Option<bool>, note: &mut impl FnMut(bool, &'static str)) {
+    let records: Vec<&[u64]> = room.chunks(10).take_while(|r| r.iter().any(|w| *w != 0)).collect();
+    let stack = records.len() - usize::from(pending == Some(true) && !records.is_empty());
+    note(stack > 2, "three frames");
+    note(stack > 5, "six frames");
+    let own = &records[..stack];
+    note(own.iter().any(|r| r[0] > 0), "a frame in a later slot");
+    note(own.iter().any(|r| r[3] == 1), "a reverse frame");
+    note(own.iter().any(|r| r[4] == 1), "a terminal to come");
+    note(own.iter().any(|r| r[6] < r[7]), "an open hub");
+    note(own.iter().any(|r| r[7] > 0 && r[6] == r[7]), "a used-up hub");
+    note(own.iter().any(|r| r[5] == 0 && r[7] == 0), "a finished reverse frame");
+}

@@ -1,0 +1,358 @@
+//! The expected outcome of a call: refusals that the original does not number from
+//! `rules`, everything else from the original's own code.
+use crate::{
+    calls::{filled, reply_words, Call, Outcome},
+    rules,
+};
+use original::{
+    door::{Budget, Panel, Walk},
+    genome_inference::panel_routes::Scores,
+};
+use std::{path::PathBuf, sync::OnceLock};
+
+pub const STATUSES: [&str; 5] = [
+    "domain-exhausted-optimum-and-correlated-support-certified",
+    "domain-exhausted-optimum-certified-support-incomplete",
+    "work-budget-exhausted",
+    "evaluation-budget-exhausted",
+    "frontier-budget-exhausted",
+];
+
+fn status(text: &str) -> u64 {
+    1 + STATUSES.iter().position(|s| *s == text).expect("a status of document 01") as u64
+}
+
+fn budget(b: &rules::BudgetWords) -> Budget {
+    Budget { work: b[0], evaluations: b[1], frontier: b[2], optima: b[3], tie: f64::from_bits(b[4]) }
+}
+
+/// A folder for the ports' files; without one they are bytes in memory.
+pub static FILES: OnceLock<PathBuf> = OnceLock::new();
+
+fn open(image: &[u8]) -> Panel {
+    Panel::open(image, FILES.get().map(PathBuf::as_path)).expect("an accepted panel opens")
+}
+
+/// Whether an optimum was ever discarded. The original says so only when it has exhausted
+/// the domain, and is held to it there; a stopped walk keeps it to itself.
+fn discarded(walk: &Walk, b: &rules::BudgetWords, scores: &[f64]) -> bool {
+    let width = f64::from_bits(b[4]);
+    let mut best: Option<f64> = None;
+    let mut tied: Vec<(f64, &Vec<u64>)> = Vec::new();
+    let mut lost = false;
+    for (assignment, &score) in walk.listed.iter().zip(scores) {
+        if best.is_none() || best.is_some_and(|b| score < b) {
+            best = Some(score);
+            tied.retain(|(s, _)| s - score <= width);
+        }
+        if score - best.unwrap() <= width && tied.iter().all(|(_, a)| *a != assignment) {
+            if (tied.len() as u64) < b[3] {
+                tied.push((score, assignment));
+            } else {
+                lost = true;
+            }
+        }
+    }
+    assert!(tied.len() == walk.optima.len(), "the tied list is the original's");
+    if walk.exhausted {
+        assert_eq!(walk.complete, !lost, "discarded is the original's");
+    }
+    lost
+}
+
+/// The same of a stopped walk, from the original itself: walked to its end under scores that
+/// can no longer tie, it says whether one was discarded before. `None` where it has no end
+/// within reach, or a width that lets everything tie.
+pub fn discarded_by_original(image: &[u8], call: &Call) -> Option<(bool, bool)> {
+    const ENOUGH: u64 = 20_000;
+    let Call::Search { budget: b, scores, .. } = call else { return None };
+    let found = outcome(image, call);
+    let stopped = found.reply[0] == 0 && found.reply[2] > 2;
+    let mut scores: Vec<f64> = scores.iter().map(|&x| f64::from_bits(x)).collect();
+    scores.truncate(found.reply[4] as usize);
+    let tame = |x: f64| x.abs() < 1e300;
+    if !stopped || !tame(f64::from_bits(b[4])) || !scores.iter().all(|x| tame(*x)) {
+        return None;
+    }
+    scores.resize(ENOUGH as usize, f64::MAX);
+    let wide = [ENOUGH, ENOUGH, 1000, b[3], b[4]];
+    let walk = open(image).search(budget(&wide), Scores::List(&scores), false).ok()?.ok()?;
+    walk.exhausted.then_some((found.reply[13] == 1, !walk.complete))
+}
+
+pub fn outcome(image: &[u8], call: &Call) -> Outcome {
+    let mut rooms: Vec<Vec<u64>> = call.rooms().into_iter().map(filled).collect();
+    let mut reply = answer(image, call, &mut rooms);
+    reply.resize(reply_words(call.kind()), 0);
+    Outcome { reply, rooms }
+}
+
+fn answer(image: &[u8], call: &Call, rooms: &mut [Vec<u64>]) -> Vec<u64> {
+    let number = rules::panel(image);
+    if number != 0 {
+        return vec![number, 0];
+    }
+    let (lanes, k) = rules::lanes_and_k(image);
+    match call {
+        Call::Panel => vec![0, 0],
+        Call::Port { lane, .. } if *lane >= lanes => vec![9, 0],
+        Call::Port { lane, cut, reverse } => {
+            let port = open(image).port_at_cut(*lane as usize, *cut, *reverse).expect("at_cut");
+            let Some((anchor, word)) = port else { return vec![0, 0, 0, 0] };
+            let mut letters = [0; 32];
+            letters[..word.len()].copy_from_slice(&word);
+            let words = letters.chunks(8).map(|c| u64::from_le_bytes(c.try_into().unwrap()));
+            [0, 0, 1, anchor].into_iter().chain(words).collect()
+        }
+        Call::Bucket { word } if word.len() as u64 != k => vec![10, 0],
+        Call::Bucket { word } => {
+            let (lo, hi) = open(image).bucket(word).expect("bucket");
+            vec![0, 0, lo, hi]
+        }
+        Call::Check { words, out } if *out < words.len() => vec![21, 0],
+        Call::Check { words, .. } if !rules::well_formed(words) => vec![22, 0],
+        Call::Check { words, .. } => match open(image).check(words).expect("the check") {
+            Err((number, place)) => vec![number, place],
+            Ok(normal) => {
+                rooms[0][..normal.len()].copy_from_slice(&normal);
+                vec![0, 0, normal.len() as u64]
+            }
+        },
+        Call::List { budget: b, from, frames, slot, out } => {
+            let number = rules::budget(b);
+            if number != 0 {
+                return vec![number, 0];
+            }
+            let needs = rules::needs(image, b);
+            if *frames < needs.frames || *slot < needs.slot {
+                return vec![13, 0];
+            }
+            let walk = open(image).search(budget(b), Scores::Free, true).expect("the walk");
+            let walk = walk.expect("every score is 0");
+            leave_frames(&walk, &mut rooms[0][..needs.frames]);
+            rooms[1][..needs.slot].fill(0);
+            let (mut written, mut words) = (0, 0);
+            for a in walk.listed.iter().skip(usize::try_from(*from).unwrap_or(usize::MAX)) {
+                if a.len() > out - words {
+                    break;
+                }
+                rooms[2][words..words + a.len()].copy_from_slice(a);
+                words += a.len();
+                written += 1;
+            }
+            // Nothing is discarded in a listing, whatever max_optima is.
+            let status = if walk.exhausted { 1 } else { status(&walk.status) };
+            vec![0, 0, status, written, words as u64, walk.evaluations]
+        }
+        Call::Search { budget: b, scores, frames, kept, kept_scores } => {
+            let number = rules::budget(b);
+            if number != 0 {
+                return vec![number, 0];
+            }
+            let needs = rules::needs(image, b);
+            if *frames < needs.frames || *kept < needs.kept || *kept_scores < needs.scores {
+                return vec![13, 0];
+            }
+            let scores: Vec<f64> = scores.iter().map(|&x| f64::from_bits(x)).collect();
+            let found = open(image).search(budget(b), Scores::List(&scores), true).expect("the walk");
+            rooms[1][..needs.kept].fill(0);
+            rooms[2][..needs.scores].fill(0);
+            let walk = match found {
+                Err((number, evaluation)) => {
+                    rooms[0][..needs.frames].fill(0);
+                    return vec![number, evaluation];
+                }
+                Ok(walk) => walk,
+            };
+            leave_frames(&walk, &mut rooms[0][..needs.frames]);
+            for (i, (score, a)) in walk.incumbent.iter().chain(&walk.optima).enumerate() {
+                rooms[1][i * needs.slot..][..a.len()].copy_from_slice(a);
+                rooms[2][i] = score.to_bits();
+            }
+            search_reply(&walk, discarded(&walk, b, &scores))
+        }
+    }
+}
+
+fn leave_frames(walk: &Walk, room: &mut [u64]) {
+    room.fill(0);
+    for (at, record) in room.chunks_mut(10).zip(walk.frames.iter().chain(&walk.pending)) {
+        at.copy_from_slice(record);
+    }
+}
+
+fn search_reply(walk: &Walk, discarded: bool) -> Vec<u64> {
+    vec![
+        0,
+        0,
+        status(&walk.status),
+        walk.work,
+        walk.evaluations,
+        walk.natives,
+        walk.donors,
+        walk.non_native,
+        walk.mixed,
+        walk.mixed_identity,
+        walk.switches,
+        walk.families,
+        walk.optima.len() as u64,
+        u64::from(discarded),
+        walk.frames.len() as u64,
+        u64::from(walk.pending.is_some()),
+    ]
+}
+
+/// The rooms of the walk program: for max_frontier 32, max_optima 16 and P 8.
+pub fn program_rooms() -> rules::Needs {
+    rules::needs_of(8, 32, 16)
+}
+
+/// The call that a job stands for, with the program's rooms; or 16.
+pub fn job_call(job: &[u8]) -> Result<(&[u8], Call), u64> {
+    let job = rules::job(job)?;
+    let rooms = program_rooms();
+    let call = Call::Search {
+        budget: job.budget,
+        scores: job.scores.iter().map(|s| s.to_bits()).collect(),
+        frames: rooms.frames,
+        kept: rooms.kept,
+        kept_scores: rooms.scores,
+    };
+    Ok((job.image, call))
+}
+
+/// What the walk program prints.
+pub fn sheet(job: &[u8]) -> String {
+    let (image, call) = match job_call(job) {
+        Ok(found) => found,
+        Err(number) => return format!("refused {number} 0\n"),
+    };
+    let found = outcome(image, &call);
+    let r = &found.reply;
+    if r[0] != 0 {
+        return format!("refused {} {}\n", r[0], r[1]);
+    }
+    let mut text = format!("status {}\n", STATUSES[r[2] as usize - 1]);
+    let names = [
+        "work",
+        "evaluations",
+        "natives",
+        "donors",
+        "non-native",
+        "mixed",
+        "mixed-identity",
+        "switches",
+        "families",
+        "optima",
+    ];
+    for (name, value) in names.iter().zip(&r[3..]) {
+        text += &format!("{name} {value}\n");
+    }
+    let incumbent = &found.rooms[1];
+    let targets = targets(image, incumbent[0]);
+    let (mut foreign, mut lines) = (0, String::new());
+    let mut at = 2;
+    for slot in 0..incumbent[1] {
+        let segments = incumbent[at];
+        at += 1;
+        for _ in 0..segments {
+            let [lane, start, end, reverse] = [0, 1, 2, 3].map(|i| incumbent[at + i]);
+            if lane != targets[slot as usize] {
+                foreign += end - start;
+            }
+            let sign = if reverse == 1 { '-' } else { '+' };
+            lines += &format!("route {slot} {lane} {start} {end} {sign}\n");
+            at += 4;
+        }
+    }
+    text + &format!("foreign {foreign}\n") + &lines
+}
+
+/// The target lanes of a family of an accepted panel.
+fn targets(image: &[u8], family: u64) -> Vec<u64> {
+    let header: Vec<usize> = (0..10).map(|i| rules::word_at(image, 8 * i) as usize).collect();
+    if header[2] == 0 {
+        return Vec::new();
+    }
+    let count = |f: usize| rules::word_at(image, header[6] + 8 * f) as usize;
+    let before: usize = (0..family as usize).map(count).sum();
+    (before..before + count(family as usize)).map(|i| rules::word_at(image, header[7] + 8 * i)).collect()
+}
+
+/// The full answer of a job, for reading.
+pub fn full(job: &[u8]) -> String {
+    let (image, call) = match job_call(job) {
+        Ok(found) => found,
+        Err(number) => return format!("refused {number} 0\n"),
+    };
+    let found = outcome(image, &call);
+    let r = &found.reply;
+    if r[0] != 0 {
+        return format!("refused {} {}\n", r[0], r[1]);
+    }
+    let mut text = sheet(job);
+    text += &format!("discarded {}\nframes {}\npending {}\n", r[13], r[14], r[15]);
+    let records = (r[14] + r[15]) as usize;
+    for record in found.rooms[0].chunks(10).take(records) {
+        text += &format!("frame {}\n", spaced(record));
+    }
+    let Call::Search { budget, .. } = &call else { unreachable!() };
+    let v = rules::needs(image, budget).slot;
+    let slots = if r[4] == 0 { 0 } else { 1 + r[12] as usize };
+    for i in 0..slots {
+        let name = if i == 0 { "incumbent" } else { "tied" };
+        let words = &found.rooms[1][i * v..(i + 1) * v];
+        let used = used_words(words);
+        text += &format!("{name} {:016x} {}\n", found.rooms[2][i], spaced(&words[..used]));
+    }
+    text
+}
+
+pub fn spaced(words: &[u64]) -> String {
+    words.iter().map(u64::to_string).collect::<Vec<_>>().join(" ")
+}
+
+/// How many words an assignment at the front takes.
+pub fn used_words(words: &[u64]) -> usize {
+    let mut at = 2;
+    for _ in 0..words[1] {
+        at += 1 + 4 * words[at] as usize;
+    }
+    at
+}
+
+/// An outcome for reading: the reply's words, then those of the rooms that were written.
+pub fn text(image: &[u8], call: &Call) -> String {
+    let found = outcome(image, call);
+    if found.reply[0] != 0 {
+        return format!("refused {} {}\n", found.reply[0], found.reply[1]);
+    }
+    let r = &found.reply[2..];
+    match call {
+        Call::Panel => "accepted\n".into(),
+        Call::Port { .. } if r[0] == 0 => "no port\n".into(),
+        Call::Port { .. } => {
+            let letters: Vec<u8> = r[2..].iter().flat_map(|w| w.to_le_bytes()).filter(|b| *b != 0).collect();
+            format!("port {} {}\n", r[1], String::from_utf8_lossy(&letters))
+        }
+        Call::Bucket { .. } => format!("bucket {} {}\n", r[0], r[1]),
+        Call::Check { .. } => format!("legal {}\n", spaced(&found.rooms[0][..r[0] as usize])),
+        Call::List { .. } => {
+            let mut text = format!(
+                "status {}\nwritten {}\nwords {}\nevaluations {}\n",
+                STATUSES[r[0] as usize - 1],
+                r[1],
+                r[2],
+                r[3]
+            );
+            let mut rest = &found.rooms[2][..r[2] as usize];
+            while !rest.is_empty() {
+                let (one, later) = rest.split_at(used_words(rest));
+                text += &format!("assignment {}\n", spaced(one));
+                rest = later;
+            }
+            text
+        }
+        Call::Search { .. } => spaced(&found.reply) + "\n",
+    }
+}

@@ -1,0 +1,393 @@
+//! Smaller inputs that still differ: one change at a time, as long as one helps.
+use crate::{
+    calls::Call,
+    gen::Input,
+    spec::{PortSpec, Spec},
+};
+use std::time::{Duration, Instant};
+
+/// Numbers below x, the boldest first; one less only where that gets somewhere.
+fn below(x: u64) -> Vec<u64> {
+    let mut out = vec![0, 1, 2, x / 2, x - x / 4, x - x / 16];
+    if x <= 64 {
+        out.push(x.saturating_sub(1));
+    }
+    out.retain(|y| *y < x);
+    out.dedup();
+    out
+}
+
+fn lengths(x: usize) -> Vec<usize> {
+    below(x as u64).into_iter().map(|y| y as usize).collect()
+}
+
+fn without<T: Clone>(list: &[T], from: usize, n: usize) -> Vec<T> {
+    [&list[..from], &list[(from + n).min(list.len())..]].concat()
+}
+
+/// Every list with a stretch left out, long stretches first.
+fn thinned<T: Clone>(list: &[T]) -> Vec<Vec<T>> {
+    let mut out = Vec::new();
+    let mut n = list.len();
+    while n > 0 {
+        (0..list.len()).step_by(n).for_each(|i| out.push(without(list, i, n)));
+        n /= 2;
+    }
+    out
+}
+
+/// A panel without lane i; what named it goes too.
+fn without_lane(spec: &Spec, i: u64) -> Spec {
+    let moved = |x: u64| if x > i { x - 1 } else { x };
+    let mut s = spec.clone();
+    s.lanes.remove(i as usize);
+    s.ports.retain(|p| p.source != i);
+    s.ports.iter_mut().for_each(|p| p.source = moved(p.source));
+    for f in &mut s.families {
+        f.retain(|l| *l != i);
+        f.iter_mut().for_each(|l| *l = moved(*l));
+    }
+    s.families.retain(|f| !f.is_empty());
+    s
+}
+
+fn specs(spec: &Spec) -> Vec<Spec> {
+    let mut out = Vec::new();
+    let mut with = |change: &dyn Fn(&mut Spec)| {
+        let mut s = spec.clone();
+        change(&mut s);
+        out.push(s);
+    };
+    for i in 0..spec.lanes.len() {
+        if spec.lanes.len() > 1 {
+            with(&|s| *s = without_lane(s, i as u64));
+        }
+    }
+    for ports in thinned(&spec.ports) {
+        with(&|s| s.ports = ports.clone());
+    }
+    for families in thinned(&spec.families) {
+        with(&|s| s.families = families.clone());
+    }
+    for (i, f) in spec.families.iter().enumerate() {
+        for j in 0..f.len() {
+            if f.len() > 1 {
+                with(&|s| {
+                    s.families[i].remove(j);
+                });
+            }
+        }
+    }
+    if spec.k > 1 {
+        for k in below(spec.k) {
+            with(&|s| {
+                s.k = k;
+                s.ports.iter_mut().for_each(|p| p.word.truncate(k as usize));
+            });
+        }
+    }
+    for (i, lane) in spec.lanes.iter().enumerate() {
+        let ends =
+            spec.ports.iter().filter(|p| p.source == i as u64).map(|p| p.anchor.saturating_add(spec.k));
+        if let Some(end) = ends.max().filter(|e| *e < lane.0) {
+            with(&|s| s.lanes[i].0 = end);
+        }
+        below(lane.0).into_iter().for_each(|x| with(&|s| s.lanes[i].0 = x));
+        below(lane.1).into_iter().take(1).for_each(|x| with(&|s| s.lanes[i].1 = x));
+        // The lane and its ports moved down together.
+        for d in [lane.0 / 2, lane.0 / 8, 1].into_iter().filter(|d| *d > 1 || lane.0 < 65) {
+            with(&|s| {
+                s.lanes[i].0 = s.lanes[i].0.saturating_sub(d);
+                let own = s.ports.iter_mut().filter(|p| p.source == i as u64);
+                own.for_each(|p| p.anchor = p.anchor.saturating_sub(d));
+            });
+        }
+    }
+    for (i, p) in spec.ports.iter().enumerate() {
+        below(p.anchor).into_iter().for_each(|x| with(&|s| s.ports[i].anchor = x));
+        if p.reverse {
+            with(&|s| s.ports[i].reverse = false);
+        }
+    }
+    let mut words: Vec<&Vec<u8>> = spec.ports.iter().map(|p| &p.word).collect();
+    words.sort();
+    words.dedup();
+    for word in words.iter().filter(|w| w.iter().any(|b| *b != b'A')) {
+        let plain = vec![b'A'; word.len()];
+        let swap = |p: &mut PortSpec| {
+            if p.word == **word {
+                p.word = plain.clone();
+            }
+        };
+        with(&|s| s.ports.iter_mut().for_each(swap));
+    }
+    out
+}
+
+fn calls(call: &Call) -> Vec<Call> {
+    let mut out = Vec::new();
+    let mut with = |change: &dyn Fn(&mut Call)| {
+        let mut c = call.clone();
+        change(&mut c);
+        out.push(c);
+    };
+    match call {
+        Call::Panel => {}
+        Call::Port { lane, cut, reverse } => {
+            below(*lane).into_iter().for_each(|x| {
+                with(&|c| {
+                    if let Call::Port { lane, .. } = c {
+                        *lane = x
+                    }
+                })
+            });
+            below(*cut).into_iter().for_each(|x| {
+                with(&|c| {
+                    if let Call::Port { cut, .. } = c {
+                        *cut = x
+                    }
+                })
+            });
+            if *reverse {
+                with(&|c| {
+                    if let Call::Port { reverse, .. } = c {
+                        *reverse = false
+                    }
+                });
+            }
+        }
+        Call::Bucket { word } => {
+            for i in 0..word.len() {
+                with(&|c| {
+                    if let Call::Bucket { word } = c {
+                        *word = without(word, i, 1)
+                    }
+                });
+                if word[i] != b'A' {
+                    with(&|c| {
+                        if let Call::Bucket { word } = c {
+                            word[i] = b'A'
+                        }
+                    });
+                }
+            }
+        }
+        Call::Check { words, out } => {
+            for shorter in segments_dropped(words) {
+                with(&|c| {
+                    if let Call::Check { words, .. } = c {
+                        words.clone_from(&shorter)
+                    }
+                });
+            }
+            if words.len() < 300 {
+                for shorter in thinned(words) {
+                    with(&|c| {
+                        if let Call::Check { words, .. } = c {
+                            words.clone_from(&shorter)
+                        }
+                    });
+                }
+                for i in 0..words.len() {
+                    for x in below(words[i]) {
+                        with(&|c| {
+                            if let Call::Check { words, .. } = c {
+                                words[i] = x
+                            }
+                        });
+                    }
+                }
+            }
+            for x in lengths(*out).into_iter().chain([words.len()]) {
+                if x != *out {
+                    with(&|c| {
+                        if let Call::Check { out, .. } = c {
+                            *out = x
+                        }
+                    });
+                }
+            }
+        }
+        Call::List { budget, from, frames, slot, out } => {
+            for i in 0..5 {
+                for x in below(budget[i]) {
+                    with(&|c| {
+                        if let Call::List { budget, .. } = c {
+                            budget[i] = x
+                        }
+                    });
+                }
+            }
+            below(*from).into_iter().for_each(|x| {
+                with(&|c| {
+                    if let Call::List { from, .. } = c {
+                        *from = x
+                    }
+                })
+            });
+            lengths(*frames).into_iter().for_each(|x| {
+                with(&|c| {
+                    if let Call::List { frames, .. } = c {
+                        *frames = x
+                    }
+                })
+            });
+            lengths(*slot).into_iter().for_each(|x| {
+                with(&|c| {
+                    if let Call::List { slot, .. } = c {
+                        *slot = x
+                    }
+                })
+            });
+            lengths(*out).into_iter().for_each(|x| {
+                with(&|c| {
+                    if let Call::List { out, .. } = c {
+                        *out = x
+                    }
+                })
+            });
+        }
+        Call::Search { budget, scores, frames, kept, kept_scores } => {
+            for i in 0..5 {
+                for x in below(budget[i]) {
+                    with(&|c| {
+                        if let Call::Search { budget, .. } = c {
+                            budget[i] = x
+                        }
+                    });
+                }
+            }
+            if budget[4] != 0 {
+                with(&|c| {
+                    if let Call::Search { budget, .. } = c {
+                        budget[4] = 1f64.to_bits()
+                    }
+                });
+            }
+            for fewer in thinned(scores) {
+                with(&|c| {
+                    if let Call::Search { scores, .. } = c {
+                        scores.clone_from(&fewer)
+                    }
+                });
+            }
+            for i in 0..scores.len().min(40) {
+                for x in [0.0f64, 1.0] {
+                    if scores[i] != x.to_bits() && scores[i] != 0 {
+                        with(&|c| {
+                            if let Call::Search { scores, .. } = c {
+                                scores[i] = x.to_bits()
+                            }
+                        });
+                    }
+                }
+            }
+            lengths(*frames).into_iter().for_each(|x| {
+                with(&|c| {
+                    if let Call::Search { frames, .. } = c {
+                        *frames = x
+                    }
+                })
+            });
+            lengths(*kept).into_iter().for_each(|x| {
+                with(&|c| {
+                    if let Call::Search { kept, .. } = c {
+                        *kept = x
+                    }
+                })
+            });
+            lengths(*kept_scores).into_iter().for_each(|x| {
+                with(&|c| {
+                    if let Call::Search { kept_scores, .. } = c {
+                        *kept_scores = x
+                    }
+                })
+            });
+        }
+    }
+    out
+}
+
+/// Assignments with a stretch of segments left out and their count put right.
+fn segments_dropped(words: &[u64]) -> Vec<Vec<u64>> {
+    let mut out = Vec::new();
+    if !crate::rules::well_formed(words) {
+        return out;
+    }
+    let mut at = 2;
+    for _ in 0..words[1] {
+        let n = words[at] as usize;
+        let mut stretch = n;
+        while stretch > 0 {
+            for i in (0..n).step_by(stretch) {
+                let gone = stretch.min(n - i);
+                let mut w = without(words, at + 1 + 4 * i, 4 * gone);
+                w[at] = (n - gone) as u64;
+                out.push(w);
+            }
+            stretch = if stretch > 64 { stretch / 8 } else { stretch / 2 };
+        }
+        at += 1 + 4 * n;
+    }
+    out
+}
+
+/// Changes that keep a panel and its call in step: k with the word asked for, anchors with
+/// the cut asked for.
+fn both(input: &Input) -> Vec<Input> {
+    let mut out = Vec::new();
+    if let Call::Bucket { word } = &input.call {
+        for k in below(input.spec.k).into_iter().filter(|k| *k > 0) {
+            let mut i = input.clone();
+            i.spec.k = k;
+            i.spec.ports.iter_mut().for_each(|p| p.word.truncate(k as usize));
+            i.call = Call::Bucket { word: word[..word.len().min(k as usize)].to_vec() };
+            out.push(i);
+        }
+    }
+    if let Call::Port { lane, cut, reverse } = input.call {
+        // k, with the cut that the same anchor then has.
+        for k in below(input.spec.k).into_iter().filter(|k| *k > 0) {
+            let mut i = input.clone();
+            i.spec.k = k;
+            i.spec.ports.iter_mut().for_each(|p| p.word.truncate(k as usize));
+            let shift = |k: u64| if reverse { k - k / 2 } else { k / 2 };
+            let cut = cut.saturating_sub(shift(input.spec.k)) + shift(k);
+            i.call = Call::Port { lane, cut, reverse };
+            out.push(i);
+        }
+        for d in [cut / 2, cut / 8, 1].into_iter().filter(|d| *d > 1 || cut < 65) {
+            let mut i = input.clone();
+            let own = i.spec.ports.iter_mut().filter(|p| p.source == lane);
+            own.for_each(|p| p.anchor = p.anchor.saturating_sub(d));
+            if let Call::Port { cut, .. } = &mut i.call {
+                *cut = cut.saturating_sub(d);
+            }
+            out.push(i);
+        }
+    }
+    out
+}
+
+/// The smallest input found within the time that still differs.
+pub fn smallest(input: &Input, time: Duration, mut differs: impl FnMut(&Input) -> bool) -> Input {
+    let end = Instant::now() + time;
+    let mut best = input.clone();
+    'again: loop {
+        let mut next: Vec<Input> = Vec::new();
+        next.extend(both(&best));
+        next.extend(thinned(&best.edits).into_iter().map(|edits| Input { edits, ..best.clone() }));
+        next.extend(specs(&best.spec).into_iter().map(|spec| Input { spec, ..best.clone() }));
+        next.extend(calls(&best.call).into_iter().map(|call| Input { call, ..best.clone() }));
+        for candidate in next {
+            if Instant::now() > end {
+                return best;
+            }
+            if candidate != best && differs(&candidate) {
+                best = candidate;
+                continue 'again;
+            }
+        }
+        return best;
+    }
+}
