@@ -40,7 +40,7 @@ fn family_refusal(
     words: &[u64],
     f: image::Family,
 ) -> evaluate::Refusal
-    requires { ⌜ Accepted (now image) h × Formed (now words) × Groups (now image) h f × (f .number ≡ getD (now words) 0 0) × (f .count ≡ getD (now words) 1 0) ⌝ }
+    requires { ⌜ Accepted (now image) h × Formed (now words) × Groups (now image) h f × (f .number ≡ getD (now words) 0 0) × (f .count ≡ getD (now words) 1 0) × (length (now words) ≤ 65536) ⌝ }
     ensures { λ r. ⌜ r ≡ familyRefusal (panelOf (now (image .entry))) (assignmentOf (now (words .entry))) ⌝ }
 {
     let starts = image::lane_starts(image, h);
@@ -57,7 +57,7 @@ fn family_refusal(
 
 // 23 to 31.
 fn assignment_refusal(image: &[u8], h: image::Header, words: &[u64]) -> evaluate::Refusal
-    requires { ⌜ Accepted (now image) h × Formed (now words) ⌝ }
+    requires { ⌜ Accepted (now image) h × Formed (now words) × (length (now words) ≤ 65536) ⌝ }
     ensures { λ r. ⌜ r ≡ assignmentRefusal (panelOf (now (image .entry))) (assignmentOf (now (words .entry))) ⌝ }
 {
     let number = words[0] as usize;

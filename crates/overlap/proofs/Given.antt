@@ -1,5 +1,5 @@
 -- Of spans that are not empty, those as given share a base exactly when those of the normal form do.
-use Prim.Native.Nat.{ℕ, zero, suc, _≤_, _<_}
+use Prim.Native.Nat.{ℕ, zero, suc, _<_}
 use native.Mathlib.Omega.{arith}
 use mathlib.Core.Path.{_≡_, refl, sym, ap, ap₂, _∙_}
 use mathlib.Core.Logic.{_⊎_, inl, inr, ⊎-elim}
@@ -12,8 +12,8 @@ use Rattle.ground.specs.Lists.{pick, all}
 use Rattle.ground.proofs.ListLaws.{both}
 use Rattle.image.specs.Panel.{Panel}
 use Rattle.evaluate.specs.declared.Segment.{Segment}
-use Rattle.evaluate.specs.declared.Refusal.{Refusal}
 use Rattle.evaluate.specs.Refusals.{unless, at}
+use Rattle.evaluate.specs.declared.Refusal.{Refusal}
 use Rattle.evaluate.specs.Properties.{Each}
 use Rattle.evaluate.specs.Segments.{Route, joinable, joined, joining, normalize, overlap, clear, apart, flat, Holds, Share, SoundSpan, soundSpan}
 use Rattle.evaluate.specs.Check.{isEmpty, normalRefusal, routeRefusal, routesRefusal}
@@ -31,7 +31,7 @@ and-false false = refl
 
 -- ---- a joined segment meets what one of its two pieces meets
 
-overlap-sym : (s t : Segment) → overlap s t ≡ overlap t s
+pub overlap-sym : (s t : Segment) → overlap s t ≡ overlap t s
 overlap-sym s t = go (eqb (s .source) (t .source)) refl
   where
     turn : (c x y : Bool) → ((c && x) && y) ≡ ((c && y) && x)

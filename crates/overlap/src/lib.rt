@@ -1,10 +1,11 @@
-// Refusal 31: whether two segments share a base.
+// Refusal 31: whether two segments share a base. Each segment is held against the earlier ones of its lane, which are chained by lane.
 ghost use mathlib.Core.Path.{_≡_};
 ghost use mathlib.Core.Bool.{not, _&&_};
-ghost use Prim.Native.Nat.{_+_, _*_, _-_, _≤_, _<_};
-ghost use lib.ListN.{length, drop};
+ghost use Prim.Native.Nat.{_+_, _*_, _%_, _≤_, _<_};
+ghost use lib.ListN.{length, drop, replicate};
 ghost use Rattle.evaluate.specs.Segments.{overlap, clear, apart, flat};
-ghost use Rattle.words.specs.Inner.{segmentOf, segmentsOf, routesOf, Parsed, restOf};
+ghost use Rattle.words.specs.Inner.{routesOf, Parsed};
+ghost use Rattle.overlap.specs.Chains.{bucket, chainOf, Descends, Linked, LinkedOne, LinkedRoute};
 
 fn is_overlap(s: evaluate::Segment, t: evaluate::Segment) -> bool
     ensures { λ r. ⌜ r ≡ overlap s t ⌝ }
@@ -22,18 +23,23 @@ fn is_off(s: evaluate::Segment, t: evaluate::Segment) -> bool
     !is_overlap(s, t)
 }
 
-// Whether a segment shares no base with those that stand from a place on.
-fn is_clear_of(words: &[u64], s: evaluate::Segment, at: usize, left: usize) -> bool
-    requires { ⌜ at + 4 * left ≤ length (now words) ⌝ }
-    ensures { λ r. ⌜ r ≡ clear s (segmentsOf left (drop at (now (words .entry)))) ⌝ }
+// The chain of a segment: 01 has up to 4,096 lanes.
+fn chain_of(s: evaluate::Segment) -> usize
+    ensures { λ r. ⌜ (r ≡ bucket s) × (r < 4096) ⌝ }
 {
-    let mut place = at;
-    let mut n = left;
-    while 0 < n {
-        let t = words::segment_at(words, place);
+    (s.source % 4096) as usize
+}
+
+// Whether a segment shares no base with those of a chain.
+fn is_clear_of(words: &[u64], links: &[usize; 16384], s: evaluate::Segment, head: usize) -> bool
+    requires { ⌜ Descends (now links) × (head + 4 ≤ length (now words)) × (length (now words) ≤ 65536) ⌝ }
+    ensures { λ r. ⌜ r ≡ clear s (chainOf (now (words .entry)) (now (links .entry)) head) ⌝ }
+{
+    let mut e = head;
+    while 0 < e {
+        let t = words::segment_at(words, e);
         if is_off(s, t) {
-            place += evaluate::Segment::WORDS;
-            n -= 1;
+            e = links[e / 4];
         } else {
             return false;
         }
@@ -41,45 +47,38 @@ fn is_clear_of(words: &[u64], s: evaluate::Segment, at: usize, left: usize) -> b
     true
 }
 
-// Whether it shares none with those of the routes from a place on.
-fn is_clear(words: &[u64], s: evaluate::Segment, at: usize, routes: usize) -> bool
-    requires { ⌜ Parsed (now words) routes at ⌝ }
-    ensures { λ r. ⌜ r ≡ clear s (flat (routesOf routes (drop at (now (words .entry))))) ⌝ }
-{
-    let mut place = at;
-    let mut n = routes;
-    while 0 < n {
-        let left = words::count_at(words, place);
-        if is_clear_of(words, s, place + 1, left) {
-            place = place + 1 + evaluate::Segment::WORDS * left;
-            n -= 1;
-        } else {
-            return false;
-        }
-    }
-    true
-}
-
-// Whether the segment at a place is apart from all that follow it, in its route and in later ones.
-fn is_first_apart(words: &[u64], at: usize, left: usize, routes: usize) -> bool
-    requires { ⌜ (0 < left) × Parsed (now words) routes (at + 4 * left) ⌝ }
-    ensures { λ r. ⌜ r ≡ clear (segmentOf (drop at (now (words .entry)))) (restOf (now (words .entry)) (at + 4) (left - 1) routes) ⌝ }
+// The segment at a place against the earlier ones; it is the first of its chain afterwards.
+fn link(words: &[u64], heads: &mut [usize; 4096], links: &mut [usize; 16384], at: usize) -> bool
+    requires { ⌜ Linked (now heads) (now links) at × (0 < at) × (at + 4 ≤ length (now words)) × (length (now words) ≤ 65536) ⌝ }
+    ensures { λ r. ⌜ LinkedOne (now (words .entry)) at (now (heads .entry)) (now (links .entry)) (now (heads .exit)) (now (links .exit)) r ⌝ }
 {
     let s = words::segment_at(words, at);
-    let near = is_clear_of(words, s, at + evaluate::Segment::WORDS, left - 1);
-    let end = at + evaluate::Segment::WORDS * left;
-    ground::both(near, is_clear(words, s, end, routes))
+    let b = chain_of(s);
+    let head = heads[b];
+    if is_clear_of(words, links, s, head) {
+        links[at / 4] = head;
+        heads[b] = at;
+        true
+    } else {
+        false
+    }
 }
 
-// Whether each segment of one route is.
-fn is_apart(words: &[u64], at: usize, left: usize, routes: usize) -> bool
-    requires { ⌜ Parsed (now words) routes (at + 4 * left) ⌝ }
-    ensures { λ r. ⌜ (r && apart (flat (routesOf routes (drop (at + 4 * left) (now (words .entry)))))) ≡ apart (restOf (now (words .entry)) at left routes) ⌝ }
+// The segments of a route, one by one.
+fn link_route(
+    words: &[u64],
+    heads: &mut [usize; 4096],
+    links: &mut [usize; 16384],
+    at: usize,
+    left: usize,
+) -> bool
+    requires { ⌜ Linked (now heads) (now links) at × (0 < at) × (at + 4 * left ≤ length (now words)) × (length (now words) ≤ 65536) ⌝ }
+    ensures { λ r. ⌜ LinkedRoute (now (words .entry)) at left (now (heads .entry)) (now (links .entry)) (now (heads .exit)) (now (links .exit)) r ⌝ }
 {
     let mut place = at;
     let mut n = left;
     while 0 < n {
-        if is_first_apart(words, place, n, routes) {
+        if link(words, heads, links, place) {
             place += evaluate::Segment::WORDS;
             n -= 1;
         } else {
@@ -87,18 +86,32 @@ fn is_apart(words: &[u64], at: usize, left: usize, routes: usize) -> bool
         }
     }
     true
+}
+
+fn no_heads() -> [usize; 4096]
+    ensures { λ r. ⌜ r ≡ replicate 4096 0 ⌝ }
+{
+    [0usize; 4096]
+}
+
+fn no_links() -> [usize; 16384]
+    ensures { λ r. ⌜ r ≡ replicate 16384 0 ⌝ }
+{
+    [0usize; 16384]
 }
 
 // Whether no two segments share a base.
 pub fn are_apart(words: &[u64], at: usize, routes: usize) -> bool
-    requires { ⌜ Parsed (now words) routes at ⌝ }
+    requires { ⌜ Parsed (now words) routes at × (length (now words) ≤ 65536) ⌝ }
     ensures { λ r. ⌜ r ≡ apart (flat (routesOf routes (drop at (now (words .entry))))) ⌝ }
 {
+    let mut heads = no_heads();
+    let mut links = no_links();
     let mut place = at;
     let mut n = routes;
     while 0 < n {
         let left = words::count_at(words, place);
-        if is_apart(words, place + 1, left, n - 1) {
+        if link_route(words, &mut heads, &mut links, place + 1, left) {
             place = place + 1 + evaluate::Segment::WORDS * left;
             n -= 1;
         } else {

@@ -13,7 +13,7 @@ assignment-refusal-spec =
     (λ c. search needs)  -- shared-slice-read-number
     (λ c. search needs)  -- shared-slice-read-routes
     (λ c κs. search needs)  -- family-of-requires
-    (λ c κs. search needs)  -- family-refusal-requires
+    (λ c κs. (search needs, search needs, search needs, search needs, search needs, search needs))  -- family-refusal-requires
     (λ c κs. search needs)  -- refusal-requires
     (λ c κs. search needs)  -- refusal-requires-2
     (λ c. search refused-later)  -- returns

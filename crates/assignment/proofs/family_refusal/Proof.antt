@@ -10,7 +10,7 @@ family-refusal-spec =
     (λ c κs. search needs)  -- lane-starts-requires
     (λ c κs. search (needs, routes-parsed))  -- routes-refusal-requires
     (λ c. search family-refused)  -- returns
-    (λ c κs. search routes-parsed)  -- are-apart-requires
+    (λ c κs. search (needs, routes-parsed))  -- are-apart-requires
     (λ c κs. search needs)  -- refusal-requires
     (λ c κs. search needs)  -- refusal-requires-2
     (λ c. search family-none)  -- returns-2
