@@ -18,7 +18,7 @@ use Rattle.evaluate.specs.Words.{bit}
 use Rattle.search.specs.Walk.{Place, Frame, onPath}
 use Rattle.search.specs.Rooms.{frameWidth, pieceHere, frameWords, stackWords}
 use Rattle.frames.specs.declared.Stored.{Stored}
-use Rattle.frames.specs.Inner.{storedWords, put, storedAt, Path, noPath, pieceFrom, longer, pathTo, pathAt, pieceAt, pieces, noSegment, apartFrom, placeWith, frameWith, frameOf, stackOf, Linked}
+use Rattle.frames.specs.Inner.{storedWords, put, storedAt, Path, noPath, pieceFrom, longer, pathTo, pathAt, pieceAt, pieces, noSegment, apartFrom, placeWith, frameWith, frameOf, stackOf, Linked, Alike}
 use Rattle.frames.proofs.Sets.{getD-sets-lt, getD-sets-ge, getD-sets-in, drop-sets, take-sets}
 
 -- ---- one frame
@@ -160,12 +160,6 @@ path-below xs i zero f h = path-zero (put xs i f) ∙ sym (path-zero xs)
 path-below xs i (suc j) f h =
     path-suc (put xs i f) j
     ∙ rw (path-below xs i j f (omega arith), stored-below xs i j f (omega arith), stored-below xs i (suc j) f h) (sym (path-suc xs j))
-
--- a frame that leads as the other did: the same slot, and the same piece leads to it
-pub record Alike (f g : Stored) : Type 0 where
-  pub slot : f .slot ≡ g .slot
-  pub start : f .start ≡ g .start
-  pub end : f .end ≡ g .end
 
 alike-path : (a : Path) (e f g : Stored) → Alike f g → pathTo a e f ≡ pathTo a e g
 alike-path a e f g s = rw (s .slot, s .start, s .end)
