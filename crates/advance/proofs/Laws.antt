@@ -9,11 +9,11 @@ use mathlib.Core.List.{List, [], _∷_, _++_}
 use mir.Val.{Fits}
 use mir.Syntax.{w64}
 use borrow.Author.Needs.{fits-under}
-use borrow.Author.Tests.{eq-eqb, ne-eqb, lt-ltb, le-ltb, ltb-true, ltb-false}
+use borrow.Author.Tests.{eq-eqb, ne-eqb, lt-ltb, le-ltb, ltb-true, ltb-false, leb-true}
 use lib.Dec.{leb, ltb, eqb}
 use lib.ListN.{length, getD}
-use Rattle.ground.specs.Lists.{pick, all, count, oneMoreIf}
-use Rattle.ground.proofs.ListLaws.{both, all-at}
+use Rattle.ground.specs.Lists.{pick, all, count, oneMoreIf, sum}
+use Rattle.ground.proofs.ListLaws.{both, all-at, split-length}
 use Rattle.storage.specs.Records.{cutAs, cutOf, noPort, sameTurn}
 use Rattle.storage.specs.declared.Port.{Port}
 use Rattle.storage.specs.declared.Members.{Members}
@@ -21,11 +21,11 @@ use Rattle.storage.specs.Orders.{bucketOf, wordUpTo}
 use Rattle.image.specs.declared.Header.{Header}
 use Rattle.image.specs.declared.Lane.{Lane}
 use Rattle.image.specs.declared.Family.{Family}
-use Rattle.image.specs.Image.{entries, counts, portsOf, hub, paths, families, pathsOf, noEntry}
+use Rattle.image.specs.Image.{entries, counts, pathCounts, portsOf, lanePorts, hub, paths, families, pathsOf, noEntry}
 use Rattle.image.specs.Inner.{Framed, Started, Stands, Groups}
 use Rattle.image.specs.Panel.{Panel, panelOf, laneAt, pathsAt}
-use Rattle.image.proofs.Laws.{panel-ports, panel-hub, panel-k, panel-families, panel-entry, row-length, hub-length, paths-length, family-index, family-path-is, family-length, lane-within}
-use Rattle.families.specs.Families.{sound5, sound5a, sound5b, names, noTwice}
+use Rattle.image.proofs.Laws.{panel-ports, panel-hub, panel-k, panel-families, panel-entry, row-length, hub-length, lane-ports-length, paths-length, path-counts-length, family-index, family-path-is, family-length, lane-within}
+use Rattle.families.specs.Families.{countOk, sound5, sound5a, sound5b, names, noTwice}
 use Rattle.panel.specs.Inner.{Accepted}
 use Rattle.panel.specs.Refusals.{soundPort, soundPlace}
 use Rattle.panel.proofs.Laws.{record-sound}
@@ -59,7 +59,7 @@ piece-behind f to l =
 
 -- ---- the panel that the code reads
 
-paths-are : (s : List ℕ) (h : Header) (n : ℕ) → Framed s h → pathsAt (panelOf s) n ≡ pathsOf h s n
+pub paths-are : (s : List ℕ) (h : Header) (n : ℕ) → Framed s h → pathsAt (panelOf s) n ≡ pathsOf h s n
 unfolding pathsOf
 paths-are s h n f = rw (panel-families s h f)
 
@@ -73,6 +73,18 @@ path-named s h f i lane acc g lt e =
     let told = all-at 0 (names h) (paths h s) (f .start + i) named room in
     let is : getD (paths h s) (f .start + i) 0 ≡ getD (pathsOf h s (f .number)) i 0 = family-path-is s h f g i _ lt refl in
     let m = ltb-true (getD (paths h s) (f .start + i) 0) (h .lanes) told in
+    omega arith
+
+-- a family has a path
+pub path-some : (s : List ℕ) (h : Header) (f : Family) → Accepted s h → Groups s h f → 0 < f .count
+unfolding sound5 sound5a countOk
+path-some s h f acc g =
+    let a = both (all countOk (pathCounts h s) && eqb (sum (pathCounts h s)) (h .paths)) (sound5b h s) (acc .familied) .0 in
+    let counted = both (all countOk (pathCounts h s)) (eqb (sum (pathCounts h s)) (h .paths)) a .0 in
+    let room : f .number < length (pathCounts h s) = rw (path-counts-length s h) (g .family) in
+    let told = all-at 0 countOk (pathCounts h s) (f .number) counted room in
+    let least = leb-true 1 (getD (pathCounts h s) (f .number) 0) (both (leb 1 (getD (pathCounts h s) (f .number) 0)) (leb (getD (pathCounts h s) (f .number) 0) 64) told .0) in
+    let c = g .count in
     omega arith
 
 -- ---- closing a route
@@ -157,7 +169,7 @@ module _ (s : List ℕ) (h : Header) (l : Lane) (f : Stored) (acc : Accepted s h
       })
 
 alike-moved : (f g : Stored) (next lo hi : ℕ) → g ≡ movedTo f next lo hi → Alike g f
-alike-moved f g next lo hi e = rw e (record { slot = refl; start = refl; end = refl })
+alike-moved f g next lo hi e = rw e (record { slot = refl; source = refl; reverse = refl; start = refl; end = refl })
 
 -- no hub is open
 shut : (p : Panel) (f : Frame) (flag : Bool) → f .hubEnd ≡ 0 → Flagged p f flag
@@ -336,6 +348,16 @@ unfolding count
 count-few f [] = omega arith
 count-few f (x ∷ l) = few-more (f x) (count f l) (length l) (count-few f l)
 
+-- a lane has no more ports of a kind than ports
+few-ports : (s : List ℕ) (h : Header) (n : ℕ) → Accepted s h → n < h .lanes → (f : Port → Bool) → count f (laneAt (panelOf s) n .ports) ≤ getD (counts h s) n 0
+unfolding portsOf
+few-ports s h n acc lt f =
+    let c = count-few f (laneAt (panelOf s) n .ports) in
+    let total = acc .counted .total in
+    let room : sum (counts h s) ≤ length (lanePorts h s) = (let e = lane-ports-length s h in omega arith) in
+    let e : length (laneAt (panelOf s) n .ports) ≡ getD (counts h s) n 0 = ap length (panel-ports s h n (acc .counted .framed) lt) ∙ split-length (counts h s) (lanePorts h s) n room in
+    omega arith
+
 module _ (s : List ℕ) (h : Header) (family : Family) (l : Lane) (xs : List ℕ) (top : ℕ) (f : Stored) (on : On s h family l xs top f) (term : f .terminal ≡ false) (none : f .«hub_end» ≡ 0) where
   is-shut : ltb 0 (f .«hub_end») ≡ false
   is-shut = le-ltb 0 (f .«hub_end») (omega arith)
@@ -347,7 +369,7 @@ module _ (s : List ℕ) (h : Header) (family : Family) (l : Lane) (xs : List ℕ
       (record {
         act = rw (term, is-shut, q);
         taken = rw (term, is-shut);
-        alike = record { slot = refl; start = refl; end = refl };
+        alike = record { slot = refl; source = refl; reverse = refl; start = refl; end = refl };
         sound = on .sound;
         child = λ c z. (let y : _≡_ {A = ℕ} 0 1 = cc in absurd (omega arith));
         flagged = shut (panelOf s) (frameWith (pathAt xs top) f) true none;
@@ -459,6 +481,47 @@ module _ (s : List ℕ) (h : Header) (l : Lane) (f : Stored) (n : ℕ) (acc : Ac
       (entered (panelOf s) f)
   unfolding entered reached
   enter-forward e = rw (en, e, panel-k s h (acc .counted .framed), ports-here s h l f acc st here, add-one)
+
+-- the first port goes by lane, cut and orientation alone
+first-bare : (p : Panel) (a : Path) (c : Stored) (b : Bool) → firstPort p (bare c) b ≡ firstPort p (placeWith a c) b
+first-bare p a c true = refl
+first-bare p a c false = refl
+
+-- the frame of a child, entered
+pub enter-child : (s : List ℕ) (h : Header) (n : ℕ) (p : Panel) (a : Path) (c : Stored) → Child s h n c → frameWith a (entered p c) ≡ enter p (placeWith a c)
+unfolding entered enter
+enter-child s h n p a c k =
+    let e = first-bare p a c (c .reverse) in
+    λ i. record { place = placeWith a c; terminal = k .waiting i; next = e i; hubNext = k .noHub i; hubEnd = k .closed i }
+
+pub enter-alike : (p : Panel) (c : Stored) → Alike (entered p c) c
+unfolding entered
+enter-alike p c = record { slot = refl; source = refl; reverse = refl; start = refl; end = refl }
+
+-- an entered child is sound, and has no hub open
+pub enter-sound : (s : List ℕ) (h : Header) (n : ℕ) (c : Stored) → Accepted s h → Child s h n c → Sound s h n (entered (panelOf s) c)
+unfolding entered
+enter-sound s h n c acc k =
+    record {
+      lane = k .lane;
+      slot = k .slot;
+      ports = first-few (c .reverse);
+      hub = rw (k .closed) (omega arith);
+      opened = λ z. absurd (let e = k .closed in omega arith);
+      second = λ z. absurd (let e = k .closed in omega arith);
+      waiting = λ z. k .closed;
+    }
+  where
+    few : (f : Port → Bool) → count f (laneAt (panelOf s) (c .source) .ports) ≤ getD (counts h s) (c .source) 0
+    few f = few-ports s h (c .source) acc (k .lane) f
+
+    first-few : (b : Bool) → firstPort (panelOf s) (bare c) b ≤ getD (counts h s) (c .source) 0 + 1
+    first-few true = let m = few (λ q. ltb (cutAs (panelOf s .k) true (q .anchor)) (c .cut)) in omega arith
+    first-few false = let m = few (λ q. leb (cutAs (panelOf s .k) false (q .anchor)) (c .cut)) in omega arith
+
+pub enter-shut : (p q : Panel) (a : Path) (s : List ℕ) (h : Header) (n : ℕ) (c : Stored) (flag : Bool) → Child s h n c → Flagged p (frameWith a (entered q c)) flag
+unfolding entered
+enter-shut p q a s h n c flag k = shut p (frameWith a (entered q c)) flag (k .closed)
 
 -- ---- small functions
 

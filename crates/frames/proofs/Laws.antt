@@ -161,7 +161,7 @@ path-below xs i (suc j) f h =
     path-suc (put xs i f) j
     ∙ rw (path-below xs i j f (omega arith), stored-below xs i j f (omega arith), stored-below xs i (suc j) f h) (sym (path-suc xs j))
 
-alike-path : (a : Path) (e f g : Stored) → Alike f g → pathTo a e f ≡ pathTo a e g
+pub alike-path : (a : Path) (e f g : Stored) → Alike f g → pathTo a e f ≡ pathTo a e g
 alike-path a e f g s = rw (s .slot, s .start, s .end)
 
 pub path-at : (xs : List ℕ) (i : ℕ) (f : Stored) → (i + 1) * frameWidth ≤ length xs → Alike f (storedAt xs i) → pathAt (put xs i f) i ≡ pathAt xs i
@@ -192,7 +192,7 @@ unfolding stackOf
 length-stack xs zero = refl
 length-stack xs (suc d) = ap suc (length-stack xs d)
 
-frame-below : (xs : List ℕ) (i j : ℕ) (f : Stored) → j < i → frameOf (put xs i f) j ≡ frameOf xs j
+pub frame-below : (xs : List ℕ) (i j : ℕ) (f : Stored) → j < i → frameOf (put xs i f) j ≡ frameOf xs j
 unfolding frameOf
 frame-below xs i j f h = rw (path-below xs i j f h, stored-below xs i j f h)
 
@@ -217,6 +217,26 @@ unfolding frameOf
 stack-root xs f h =
     stack-suc (put xs 0 f) 0
     ∙ ap₂ (λ (g : Frame) (st : List Frame). g ∷ st) (rw (path-zero (put xs 0 f), stored-same xs 0 f h)) (stack-none (put xs 0 f))
+
+-- what leads on from a frame that leads as another
+pub alike-below : (a : Path) (f g e : Stored) → Alike f g → pathTo a f e ≡ pathTo a g e
+alike-below a f g e s = rw (s .slot, s .source, s .reverse)
+
+-- the frame above the top
+pub frame-push : (xs : List ℕ) (i : ℕ) (f : Stored) → (i + 2) * frameWidth ≤ length xs → frameOf (put xs (i + 1) f) (i + 1) ≡ frameWith (pathTo (pathAt xs i) (storedAt xs i) f) f
+unfolding frameOf
+frame-push xs i f h =
+    simp add-one
+    (rw (path-suc (put xs (suc i) f) i, path-below xs (suc i) i f (omega arith), stored-below xs (suc i) i f (omega arith), stored-same xs (suc i) f (omega arith)))
+
+-- another frame at the top leads as the one before
+pub frame-retop : (xs : List ℕ) (i : ℕ) (f : Stored) → (i + 1) * frameWidth ≤ length xs → Alike f (storedAt xs i) → frameOf (put xs i f) i ≡ frameWith (pathAt xs i) f
+unfolding frameOf
+frame-retop xs i f h s = rw (path-at xs i f h s, stored-same xs i f h)
+
+pub frame-root : (xs : List ℕ) (f : Stored) → frameWidth ≤ length xs → frameOf (put xs 0 f) 0 ≡ frameWith noPath f
+unfolding frameOf
+frame-root xs f h = rw (path-zero (put xs 0 f), stored-same xs 0 f h)
 
 -- a child above the top
 pub stack-push : (xs : List ℕ) (i : ℕ) (f : Stored) → (i + 2) * frameWidth ≤ length xs

@@ -103,8 +103,10 @@ pub record Linked (xs : List ℕ) (d : ℕ) : Type 0 where
   pub rootStart : 0 < d → storedAt xs 0 .start ≡ 0
   pub rootEnd : 0 < d → storedAt xs 0 .end ≡ 0
 
--- a frame that leads as the other did: the same slot, and the same piece leads to it
+-- a frame that leads as the other did: the same slot, lane and orientation, and the same piece leads to it
 pub record Alike (f g : Stored) : Type 0 where
   pub slot : f .slot ≡ g .slot
+  pub source : f .source ≡ g .source
+  pub reverse : f .reverse ≡ g .reverse
   pub start : f .start ≡ g .start
   pub end : f .end ≡ g .end
