@@ -11,12 +11,12 @@ use lib.ListN.{length, set, getD, take, drop, length-append, length-set, length-
 use lib.Seq.{sets, sets-eq, length-sets, take-at, drop-at, set-at, drop-drop, drop-cons}
 use borrow.Author.Tests.{eq-eqb, ne-eqb}
 use Rattle.evaluate.specs.declared.Segment.{Segment}
-use Rattle.evaluate.specs.Segments.{Route, Assignment}
+use Rattle.evaluate.specs.Segments.{Route, Assignment, flat}
 use Rattle.evaluate.specs.Words.{bit, segmentWords, routeWords, encode}
 use Rattle.search.specs.Rooms.{frameWidth}
 use Rattle.frames.specs.declared.Stored.{Stored}
 use Rattle.frames.specs.Inner.{Path, noPath, longer, pathTo, pathAt, pieceAt, storedAt}
-use Rattle.frames.proofs.Laws.{path-zero, path-suc}
+use Rattle.frames.proofs.Laws.{path-zero, path-suc, path-pieces, pieces-length}
 use Rattle.walks.specs.Inner.{assigned}
 use Rattle.writer.specs.declared.Pen.{Pen}
 use Rattle.writer.specs.Inner.{segmentPut, begun, pathWords, Penned, Roomy, Added, Opened, Pieced, Written}
@@ -295,3 +295,24 @@ module _ (family : ℕ) (fs : List ℕ) (top : ℕ) (s : Segment) (zs xs : List 
 
 pub added-told : (xs ys : List ℕ) (p : Pen) (s : Segment) → ys ≡ segmentPut xs (p .at) s → Added xs (set ys (p .head) (p .count + 1)) p s (record { head = p .head; at = p .at + 4; count = p .count + 1; routes = p .routes })
 added-told xs ys p s e = record { room = rw e; pen = refl }
+
+-- ---- how many words a completed assignment has
+
+routes-length : (rs : List Route) → length (routeWords rs) ≡ length rs + 4 * length (flat rs)
+routes-length [] = refl
+routes-length (r ∷ rs) =
+    let e = routes-length rs in
+    let l = length-append (segmentWords r) (routeWords rs) in
+    let q = segments-length r in
+    let m = length-append r (flat rs) in
+    omega arith
+
+-- "V = 2 + P + 4R words": fewer routes done than paths, and frames to the frontier
+pub due-fits : (family : ℕ) (fs : List ℕ) (top paths most : ℕ) (s : Segment) → length (pathAt fs top .routes) < paths → top < most → length (encode (assigned family fs top s)) ≤ 2 + paths + 4 * most
+due-fits family fs top paths most s few low =
+    let e = encode-size family fs top s in
+    let z = size-is family (pathAt fs top) in
+    let r = routes-length (pathAt fs top .routes) in
+    let l = length-append (flat (pathAt fs top .routes)) (pathAt fs top .route) in
+    let n = ap length (path-pieces fs top) ∙ pieces-length fs top in
+    omega arith
