@@ -5,13 +5,22 @@ use native.Mathlib.Nat.{not-suc-le-zero}
 use native.Mathlib.Omega.{arith}
 use mathlib.Core.Path.{_≡_, refl, sym, ap, ap₂, _∙_}
 use mathlib.Core.Bool.{Bool, true, false}
-use mathlib.Core.List.{List, [], _∷_, _++_, append-assoc, append-nil}
+use mathlib.Core.List.{List, [], _∷_, _++_, map, append-assoc, append-nil}
 use lib.Dec.{eqb}
-use lib.ListN.{length, set, getD, take, drop, length-append, length-set, length-drop}
-use lib.Seq.{sets, sets-eq, length-sets, take-at, drop-at, set-at, drop-drop, drop-cons}
+use lib.ListN.{length, set, getD, take, drop, length-append, length-set, length-drop, length-map}
+use lib.Seq.{sets, sets-eq, length-sets, take-at, drop-at, set-at, drop-drop, drop-cons, length-take-le, take-suc, take-all}
 use borrow.Author.Tests.{eq-eqb, ne-eqb}
+use Rattle.image.specs.declared.Header.{Header}
+use Rattle.image.specs.declared.Entry.{Entry}
+use Rattle.image.specs.declared.Family.{Family}
+use Rattle.image.specs.Image.{entries, pathsOf, noEntry}
+use Rattle.image.specs.Inner.{Groups}
+use Rattle.image.specs.Panel.{Panel, panelOf, laneAt, pathsAt}
+use Rattle.image.proofs.Laws.{panel-entry, family-length}
+use Rattle.panel.specs.Inner.{Accepted}
+use Rattle.advance.proofs.Laws.{paths-are, path-named}
 use Rattle.evaluate.specs.declared.Segment.{Segment}
-use Rattle.evaluate.specs.Segments.{Route, Assignment, flat}
+use Rattle.evaluate.specs.Segments.{Route, Assignment, flat, whole, nativeOf}
 use Rattle.evaluate.specs.Words.{bit, segmentWords, routeWords, encode}
 use Rattle.search.specs.Rooms.{frameWidth}
 use Rattle.frames.specs.declared.Stored.{Stored}
@@ -19,7 +28,7 @@ use Rattle.frames.specs.Inner.{Path, noPath, longer, pathTo, pathAt, pieceAt, s
 use Rattle.frames.proofs.Laws.{path-zero, path-suc, path-pieces, pieces-length}
 use Rattle.walks.specs.Inner.{assigned}
 use Rattle.writer.specs.declared.Pen.{Pen}
-use Rattle.writer.specs.Inner.{segmentPut, begun, pathWords, Penned, Roomy, Added, Opened, Pieced, Written}
+use Rattle.writer.specs.Inner.{segmentPut, wholePut, begun, pathWords, Penned, Roomy, Added, Opened, Pieced, Written}
 
 -- ---- words of longer lists
 
@@ -316,3 +325,88 @@ due-fits family fs top paths most s few low =
     let l = length-append (flat (pathAt fs top .routes)) (pathAt fs top .route) in
     let n = ap length (path-pieces fs top) ∙ pieces-length fs top in
     omega arith
+
+-- ---- natives
+
+pub whole-told : (s : List ℕ) (h : Header) (family : Family) (i lane at : ℕ) (e : Entry) (xs ys : List ℕ) → Accepted s h → lane ≡ getD (pathsOf h s (family .number)) i 0 → e ≡ getD (entries h s) lane noEntry
+    → ys ≡ wholePut xs at lane (e .len) → ys ≡ sets xs at (routeWords (whole (panelOf s) (getD (pathsAt (panelOf s) (family .number)) i 0) ∷ []))
+unfolding wholePut
+whole-told s h family i lane at e xs ys acc el ee ey =
+    let len : laneAt (panelOf s) lane .len ≡ e .len = panel-entry s h lane (acc .counted .framed) .0 ∙ ap (λ (x : Entry). x .len) (sym ee) in
+    ey ∙ rw (paths-are s h (family .number) (acc .counted .framed), ← el, len)
+
+-- the natives of the first i paths are written
+pub record Natives (p : Panel) (f n : ℕ) (zs xs : List ℕ) (at i : ℕ) : Type 0 where
+  pub words : xs ≡ (f ∷ n ∷ routeWords (map (whole p) (take i (pathsAt p f)))) ++ drop at zs
+  pub place : at ≡ 2 + 5 * i
+  pub within : i ≤ n
+  pub long : length xs ≡ length zs
+
+routes-join : (rs qs : List Route) → routeWords (rs ++ qs) ≡ routeWords rs ++ routeWords qs
+routes-join [] qs = refl
+routes-join (r ∷ rs) qs = ap (λ (l : List ℕ). length r ∷ (segmentWords r ++ l)) (routes-join rs qs) ∙ ap (λ (l : List ℕ). length r ∷ l) (sym (append-assoc (segmentWords r) (routeWords rs) (routeWords qs)))
+
+wholes-length : (p : Panel) (l : List ℕ) → length (routeWords (map (whole p) l)) ≡ 5 * length l
+wholes-length p [] = refl
+wholes-length p (a ∷ l) = let e = wholes-length p l in omega arith
+
+map-last : (p : Panel) (l : List ℕ) (a : ℕ) → map (whole p) (l ++ (a ∷ [])) ≡ map (whole p) l ++ (whole p a ∷ [])
+map-last p [] a = refl
+map-last p (b ∷ l) a = ap (λ (r : List Route). whole p b ∷ r) (map-last p l a)
+
+module _ (p : Panel) (f n : ℕ) (zs xs : List ℕ) (at i : ℕ) (k : Natives p f n zs xs at i) where
+  pub natives-next : (ys : List ℕ) → length (pathsAt p f) ≡ n → i < n → at + 5 ≤ length xs → ys ≡ sets xs at (routeWords (whole p (getD (pathsAt p f) i 0) ∷ [])) → Natives p f n zs ys (at + 5) (i + 1)
+  natives-next ys long lt room e =
+      let done = take i (pathsAt p f) in
+      let front : length {A = ℕ} (f ∷ n ∷ routeWords (map (whole p) (take i (pathsAt p f)))) ≡ at =
+      (let w = wholes-length p (take i (pathsAt p f)) in let l = length-take-le i (pathsAt p f) (omega arith) in let q = k .place in omega arith) in
+      let one : take at xs ≡ f ∷ n ∷ routeWords (map (whole p) (take i (pathsAt p f))) = rw (k .words) (take-at (f ∷ n ∷ routeWords (map (whole p) (take i (pathsAt p f)))) (drop at zs) at front) in
+      let rest : drop at xs ≡ drop at zs = rw (k .words) (drop-at (f ∷ n ∷ routeWords (map (whole p) (take i (pathsAt p f)))) (drop at zs) at front) in
+      let two : drop (at + 5) xs ≡ drop (at + 5) zs = sym (drop-drop 5 at xs) ∙ ap (λ (l : List ℕ). drop 5 l) rest ∙ drop-drop 5 at zs in
+      let more : take (suc i) (pathsAt p f) ≡ take i (pathsAt p f) ++ (getD (pathsAt p f) i 0 ∷ []) = take-suc (pathsAt p f) i 0 (omega arith) in
+      let put : ys ≡ ((f ∷ n ∷ routeWords (map (whole p) (take i (pathsAt p f)))) ++ routeWords (whole p (getD (pathsAt p f) i 0) ∷ [])) ++ drop (at + 5) zs =
+      e ∙ sets-eq (routeWords (whole p (getD (pathsAt p f) i 0) ∷ [])) xs at room ∙ rw (one, two) in
+      let words : routeWords (map (whole p) (take (i + 1) (pathsAt p f))) ≡ routeWords (map (whole p) (take i (pathsAt p f))) ++ routeWords (whole p (getD (pathsAt p f) i 0) ∷ []) =
+      rw (add-one, more, map-last p (take i (pathsAt p f)) (getD (pathsAt p f) i 0)) (routes-join (map (whole p) (take i (pathsAt p f))) (whole p (getD (pathsAt p f) i 0) ∷ [])) in
+      let q = k .place in
+      record {
+        words = put ∙ ap (λ (l : List ℕ). (f ∷ n ∷ l) ++ drop (at + 5) zs) (sym words);
+        place = omega arith;
+        within = omega arith;
+        long = ap length e ∙ length-sets xs at (routeWords (whole p (getD (pathsAt p f) i 0) ∷ [])) ∙ k .long;
+      }
+
+stores-are : (f n : ℕ) (es zs : List ℕ) → 2 ≤ length es → zs ≡ set (set es 0 f) 1 n → zs ≡ (f ∷ n ∷ []) ++ drop 2 es
+stores-are f n es zs l e = e ∙ sets-eq (f ∷ n ∷ []) es 0 l
+
+pub natives-start : (p : Panel) (f n : ℕ) (es : List ℕ) → 2 + 5 * n ≤ length es → Natives p f n (set (set es 0 f) 1 n) (set (set es 0 f) 1 n) 2 0
+natives-start p f n es l =
+    let b = stores-are f n es (set (set es 0 f) 1 n) (omega arith) refl in
+    let d : drop 2 (set (set es 0 f) 1 n) ≡ drop 2 es = rw b (drop-at (f ∷ n ∷ []) (drop 2 es) 2 refl) in
+    record { words = b ∙ ap (λ (t : List ℕ). (f ∷ n ∷ []) ++ t) (sym d); place = refl; within = omega arith; long = refl }
+
+pub natives-done : (p : Panel) (f n : ℕ) (es ys : List ℕ) (at i : ℕ) → Natives p f n (set (set es 0 f) 1 n) ys at i → n ≤ i → length (pathsAt p f) ≡ n → 2 + 5 * n ≤ length es → Written (encode (nativeOf p f)) es ys at
+unfolding encode
+natives-done p f n es ys at i k le long l =
+    let o = k .within in
+    let same : i ≡ n = omega arith in
+    let b = stores-are f n es (set (set es 0 f) 1 n) (omega arith) refl in
+    let d2 : drop 2 (set (set es 0 f) 1 n) ≡ drop 2 es = rw b (drop-at (f ∷ n ∷ []) (drop 2 es) 2 refl) in
+    let q = k .place in
+    let two : at ≡ 2 + (at - 2) = omega arith in
+    let past : drop at (set (set es 0 f) 1 n) ≡ drop at es =
+    rw two (sym (drop-drop (at - 2) 2 (set (set es 0 f) 1 n)) ∙ ap (λ (m : List ℕ). drop (at - 2) m) d2 ∙ drop-drop (at - 2) 2 es) in
+    let all-paths : take i (pathsAt p f) ≡ pathsAt p f = take-all i (pathsAt p f) (omega arith) in
+    let count : length (map (whole p) (pathsAt p f)) ≡ n = length-map (pathsAt p f) (whole p) ∙ long in
+    let size : length (encode (nativeOf p f)) ≡ at = (let w = wholes-length p (pathsAt p f) in omega arith) in
+    let words : (f ∷ n ∷ routeWords (map (whole p) (take i (pathsAt p f)))) ≡ encode (nativeOf p f) = ap₂ (λ (c : ℕ) (m : List ℕ). f ∷ c ∷ routeWords (map (whole p) m)) (sym count) all-paths in
+    record { room = k .words ∙ ap₂ (λ (a b : List ℕ). a ++ b) words (past ∙ ap (λ (m : ℕ). drop m es) (sym size)); count = sym size }
+
+pub native-length : (s : List ℕ) (h : Header) (family : Family) → Accepted s h → Groups s h family → length (pathsAt (panelOf s) (family .number)) ≡ family .count
+native-length s h family acc g = ap length (paths-are s h (family .number) (acc .counted .framed)) ∙ family-length s h family g
+
+pub native-lane : (s : List ℕ) (h : Header) (family : Family) (i lane : ℕ) → Accepted s h → Groups s h family → i < family .count → lane ≡ getD (pathsOf h s (family .number)) i 0 → lane < h .lanes
+native-lane = path-named
+
+pub native-room : (p : Panel) (f n : ℕ) (zs xs : List ℕ) (at i : ℕ) → Natives p f n zs xs at i → i < n → 2 + 5 * n ≤ length zs → at + 5 ≤ length xs
+native-room p f n zs xs at i k lt room = let a = k .place in let l = k .long in omega arith

@@ -12,6 +12,9 @@ use Rattle.writer.specs.declared.Pen.{Pen}
 unfoldable pub segmentPut : List ℕ → ℕ → Segment → List ℕ
 segmentPut xs at s = sets xs at (segmentWords (s ∷ []))
 
+unfoldable pub wholePut : List ℕ → ℕ → ℕ → ℕ → List ℕ
+wholePut xs at lane len = sets xs at (1 ∷ lane ∷ 0 ∷ len ∷ 0 ∷ [])
+
 unfoldable pub begun : List ℕ → ℕ → List ℕ
 begun xs family = sets xs 0 (family ∷ 1 ∷ 0 ∷ [])
 

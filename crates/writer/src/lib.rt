@@ -1,11 +1,17 @@
 // The words of an assignment, written from the frames of a path.
 ghost use mathlib.Core.Path.{_≡_};
 ghost use Prim.Native.Nat.{_+_, _*_, _≤_, _<_};
-ghost use lib.ListN.{length};
-ghost use Rattle.evaluate.specs.Words.{encode};
+ghost use mathlib.Core.List.{[], _∷_};
+ghost use lib.ListN.{length, getD};
+ghost use lib.Seq.{sets};
+ghost use Rattle.image.specs.Inner.{Groups};
+ghost use Rattle.image.specs.Panel.{panelOf, pathsAt};
+ghost use Rattle.panel.specs.Inner.{Accepted};
+ghost use Rattle.evaluate.specs.Segments.{whole, nativeOf};
+ghost use Rattle.evaluate.specs.Words.{routeWords, encode};
 ghost use Rattle.search.specs.Rooms.{frameWidth};
 ghost use Rattle.walks.specs.Inner.{assigned};
-ghost use Rattle.writer.specs.Inner.{segmentPut, begun, Roomy, Added, Opened, Pieced, Written};
+ghost use Rattle.writer.specs.Inner.{segmentPut, wholePut, begun, Roomy, Added, Opened, Pieced, Written};
 use evaluate::Segment;
 
 // Where the words written so far end, where the count of the route in hand stands, that count, and how many routes there are.
@@ -107,4 +113,52 @@ pub fn put_path(slot: &mut [u64], frames: &[u64], top: usize, family: u64, s: Se
     }
     let q = add_segment(slot, p, s);
     q.at
+}
+
+// ---- a family's native assignment
+
+// One route: a lane whole.
+fn put_whole(slot: &mut [u64], at: usize, lane: u64, len: u64)
+    requires { ⌜ at + 5 ≤ length (now slot) ⌝ }
+    ensures { λ r. ⌜ now (slot .exit) ≡ wholePut (now (slot .entry)) at lane len ⌝ }
+{
+    slot[at] = 1;
+    slot[at + 1] = lane;
+    slot[at + 2] = 0;
+    slot[at + 3] = len;
+    slot[at + 4] = 0;
+}
+
+fn put_path_whole(
+    slot: &mut [u64],
+    at: usize,
+    image: &[u8],
+    h: image::Header,
+    family: image::Family,
+    i: usize,
+)
+    requires { ⌜ Accepted (now image) h × Groups (now image) h family × (i < family .count) × (at + 5 ≤ length (now slot)) ⌝ }
+    ensures { λ r. ⌜ now (slot .exit) ≡ sets (now (slot .entry)) at (routeWords (whole (panelOf (now (image .entry))) (getD (pathsAt (panelOf (now (image .entry))) (family .number)) i 0) ∷ [])) ⌝ }
+{
+    let lane = image::family_path(image, h, family, i);
+    let e = image::lane_entry(image, h, lane);
+    put_whole(slot, at, lane as u64, e.len);
+}
+
+// The words of a family's native assignment; how many they are.
+pub fn put_native(slot: &mut [u64], image: &[u8], h: image::Header, family: image::Family) -> usize
+    requires { ⌜ Accepted (now image) h × Groups (now image) h family × (2 + 5 * family .count ≤ length (now slot)) ⌝ }
+    ensures { λ r. ⌜ Written (encode (nativeOf (panelOf (now (image .entry))) (family .number))) (now (slot .entry)) (now (slot .exit)) r ⌝ }
+{
+    let n = family.count;
+    slot[0] = family.number as u64;
+    slot[1] = n as u64;
+    let mut at = 2;
+    let mut i = 0;
+    while i < n {
+        put_path_whole(slot, at, image, h, family, i);
+        at += 5;
+        i += 1;
+    }
+    at
 }
