@@ -3,6 +3,9 @@ use Prim.Native.Nat.{ℕ}
 use mathlib.Core.Path.{_≡_, sym, _∙_}
 use mathlib.Core.Bool.{Bool}
 use mathlib.Core.List.{List}
+use lib.ListN.{length}
+use Rattle.evaluate.specs.declared.AssignmentReply.{AssignmentReply}
+use Rattle.evaluate.specs.Check.{checkAnswer, checkOut}
 use Rattle.graph.specs.Check.{checked}
 use Rattle.graph.specs.Lookups.{portAnswer, bucketAnswer}
 use Rattle.panel_routes.specs.Replies.{panelReply, portReply, bucketReply}
@@ -22,3 +25,10 @@ port-one s lane cut reverse q r = one
 
 pub bucket-one : (s w : List ℕ) (q r : BucketReply) → q ≡ bucketReply (bucketAnswer s w) → r ≡ bucketReply (bucketAnswer s w) → q ≡ r
 bucket-one s w q r = one
+
+-- the reply of the assignment check, and out afterwards
+pub check-one : (s ws out : List ℕ) (q r : AssignmentReply) → q ≡ checkAnswer s ws (length out) → r ≡ checkAnswer s ws (length out) → q ≡ r
+check-one s ws out q r = one
+
+pub out-one : (s ws out xs ys : List ℕ) → xs ≡ checkOut s ws out → ys ≡ checkOut s ws out → xs ≡ ys
+out-one s ws out xs ys = one
