@@ -19,11 +19,7 @@ use Rattle.evaluate.specs.Segments.{Route, joinable, joined, joining, normalize
 use Rattle.evaluate.specs.Check.{isEmpty, normalRefusal, routeRefusal, routesRefusal}
 use Rattle.evaluate.proofs.Bases.{overlap-share, share-overlap, sound-iff}
 use Rattle.evaluate.proofs.NormalForm.{Filled, Joins, joins, end-to-end, joined-some, joined-holds}
-use Rattle.overlap.proofs.Laws.{clear-append}
-
-and-assoc : (a b c : Bool) → ((a && b) && c) ≡ (a && (b && c))
-and-assoc true b c = refl
-and-assoc false b c = refl
+use Rattle.overlap.proofs.Laws.{and-assoc, clear-append}
 
 and-false : (a : Bool) → (a && false) ≡ false
 and-false true = refl
