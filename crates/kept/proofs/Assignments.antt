@@ -1,7 +1,7 @@
 -- Two assignments are the same exactly when their words are: a run over padded words is the run over assignments.
-use mathlib.Core.Path.{_≡_, refl, sym, ap, ap₂, _∙_, subst}
+use mathlib.Core.Path.{_≡_, refl, sym, ap₂, _∙_, subst}
 use mathlib.Core.Bool.{Bool, true, false, _&&_, true≢false}
-use mathlib.Core.List.{List, [], _∷_, _++_, map}
+use mathlib.Core.List.{List, [], _∷_, map}
 use Prim.Native.Nat.{ℕ, _-_}
 use lib.Dec.{eqb}
 use lib.ListN.{length, replicate}
@@ -15,7 +15,7 @@ use Rattle.evaluate.specs.Words.{encode}
 use Rattle.evaluate.proofs.RoundTrips.{encode-apart}
 use Rattle.search.specs.Keep.{Kept, Evaluated, scoreOf, sameSegment, sameList, sameAssignment, sameEvaluated, keepOne, keepAll}
 use Rattle.search.specs.Rooms.{padTo, slotWords}
-use Rattle.slots.specs.Inner.{Held, heldScore, sameHeld, sameWords}
+use Rattle.slots.specs.Inner.{heldScore, sameHeld, sameWords}
 use Rattle.kept.specs.Inner.{heldAs, mapKept}
 use Rattle.kept.proofs.Mapped.{keep-one-map, keep-all-map}
 
