@@ -1,13 +1,12 @@
 -- Floats between the infinities, the most paths of a family, and sizes that fit.
-use Prim.Native.Nat.{ℕ, zero, suc, _+_, _-_, _*_, _≤_, _<_, max}
-use native.Mathlib.Nat.{max-zero, zero-max, suc-max-suc, max-le, max-eq-left, max-eq-right, le-max-left, le-max-right, le-trans, mul-le-mul-right, mul-le-mul-left}
+use Prim.Native.Nat.{ℕ, zero, suc, _+_, _*_, _≤_, _<_, max}
+use native.Mathlib.Nat.{max-zero, zero-max, suc-max-suc, max-le, mul-le-mul-right}
 use native.Mathlib.Omega.{arith}
-use native.Mathlib.Numerals.{add-one}
 use mathlib.Core.Path.{_≡_, refl, sym, ap, ap₂, _∙_}
 use mathlib.Core.Bool.{Bool, true, false, _&&_}
 use mathlib.Core.List.{List, [], _∷_}
 use lib.Dec.{leb}
-use lib.ListN.{length, take, drop, getD, length-drop, drop-of-length-le}
+use lib.ListN.{length, drop, getD, length-drop, drop-of-length-le}
 use lib.Seq.{length-take-le}
 use lib.Ieee as Ieee
 use lib.Ieee.{Float, nan, inf, fin}
@@ -17,12 +16,11 @@ use mir.Val.{Fits}
 use mir.Syntax.{w64}
 use borrow.Author.Needs.{fits-under}
 use Rattle.ground.specs.Lists.{split, sum}
-use Rattle.ground.proofs.ListLaws.{both, drop-next-of, sum-take-le}
+use Rattle.ground.proofs.ListLaws.{both, drop-next-of}
 use Rattle.evaluate.specs.Refusals.{unless}
 use Rattle.image.specs.declared.Header.{Header}
-use Rattle.image.specs.Header.{headerOf}
 use Rattle.image.specs.Image.{pathCounts, paths, families}
-use Rattle.image.specs.Inner.{Grouped, Framed}
+use Rattle.image.specs.Inner.{Grouped}
 use Rattle.image.specs.Panel.{Panel, panelBy, panelOf}
 use Rattle.image.proofs.Laws.{path-counts-length, paths-length}
 use Rattle.search.specs.declared.SearchBudget.{SearchBudget}

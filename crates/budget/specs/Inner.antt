@@ -1,7 +1,6 @@
 -- Refusal 13 from the width of a slot: what the contracts of this crate are written in.
 use Prim.Native.Nat.{ℕ, _+_, _*_, _≤_}
-use mathlib.Core.Path.{_≡_}
-use mathlib.Core.Bool.{Bool, _&&_}
+use mathlib.Core.Bool.{_&&_}
 use lib.Dec.{leb}
 use Rattle.evaluate.specs.Refusals.{unless}
 use Rattle.search.specs.declared.SearchBudget.{SearchBudget}

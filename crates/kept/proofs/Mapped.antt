@@ -1,5 +1,5 @@
 -- A run over one kind of element is the run over another, where scores and sameness agree.
-use mathlib.Core.Path.{_≡_, refl, sym, ap, ap₂, _∙_}
+use mathlib.Core.Path.{_≡_, refl, ap, ap₂, _∙_}
 use mathlib.Core.Bool.{Bool, true, false, not, _&&_, _||_}
 use mathlib.Core.List.{List, [], _∷_, _++_, map}
 use Prim.Native.Nat.{ℕ}
@@ -8,7 +8,7 @@ use lib.ListN.{length, length-map}
 use lib.Ieee as Ieee
 use lib.Ieee.{Float}
 use Rattle.ground.specs.Lists.{pick, consIf, keep, any}
-use Rattle.search.specs.Keep.{Kept, nothing, tiedTo, tiesTo, lowers, near, has, lowered, adding, replaced, added, keepOne, keepAll}
+use Rattle.search.specs.Keep.{Kept, tiedTo, tiesTo, lowers, near, has, lowered, adding, replaced, added, keepOne, keepAll}
 use Rattle.kept.specs.Inner.{mapKept}
 
 module _ {A B : Type 0} (f : A → B) (score : A → Float) (score′ : B → Float) (same : A → A → Bool) (same′ : B → B → Bool)

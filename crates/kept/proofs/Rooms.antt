@@ -4,7 +4,7 @@ use mathlib.Core.Bool.{Bool, true, false}
 use mathlib.Core.List.{List, [], _∷_, _++_, append-nil, append-assoc, map}
 use Prim.Native.Nat.{ℕ, zero, suc, _+_, _-_, _*_, _≤_, _<_}
 use native.Mathlib.Omega.{arith}
-use native.Mathlib.Nat.{suc-mul, not-suc-le-zero, add-mul, one-mul, zero-mul}
+use native.Mathlib.Nat.{suc-mul, not-suc-le-zero}
 use lib.ListN.{length, take, drop, getD, replicate, length-drop, length-append, length-map, length-replicate, take-append-drop, replicate-append-replicate}
 use lib.Seq.{take-add, length-take-le}
 use lib.Ieee.{Float, nan}
@@ -17,9 +17,9 @@ use Rattle.search.specs.declared.SearchBudget.{SearchBudget}
 use Rattle.search.specs.Budget.{zeroScore}
 use Rattle.search.specs.Keep.{Kept, nothing, Evaluated, scoreOf, sameEvaluated, keepOne}
 use Rattle.search.specs.Rooms.{padTo, padScores, slotWidth, slotWords, keptNeeded, keptLeft, scoresNeeded, keptScoresLeft}
-use Rattle.slots.specs.Inner.{Held, heldScore, sameHeld, slotAt, putSlot, blank, heldIn}
+use Rattle.slots.specs.Inner.{Held, heldScore, sameHeld, putSlot, blank, heldIn}
 use Rattle.slots.proofs.Slots.{length-held, held-take}
-use Rattle.kept.specs.Inner.{firstOf, tiesOf, viewOf, heldAs, mapKept, noHolding, Tidy, Ready, Left, Recorded, Begun, Keeps}
+use Rattle.kept.specs.Inner.{firstOf, tiesOf, viewOf, heldAs, noHolding, Tidy, Ready, Left, Recorded, Begun, Keeps}
 use Rattle.kept.specs.declared.Holding.{Holding}
 use Rattle.kept.proofs.Steps.{spare-is}
 use Rattle.kept.proofs.Spare.{noted}

@@ -1,19 +1,19 @@
 -- The spare written, and the rooms zeroed: what makes them tidy, and what stays of the view.
-use mathlib.Core.Path.{_≡_, refl, sym, ap, ap₂, _∙_, subst}
-use mathlib.Core.List.{List, [], _∷_, _++_, append-nil, append-assoc}
-use Prim.Native.Nat.{ℕ, zero, suc, _+_, _-_, _*_, _≤_, _<_}
+use mathlib.Core.Path.{_≡_, sym, ap, ap₂, _∙_, subst}
+use mathlib.Core.List.{List, _++_, append-assoc}
+use Prim.Native.Nat.{ℕ, suc, _+_, _-_, _*_, _≤_, _<_}
 use native.Mathlib.Omega.{arith}
 use native.Mathlib.Nat.{add-mul, one-mul, mul-le-mul-right}
 use native.Mathlib.Numerals.{add-one}
-use lib.ListN.{length, take, drop, getD, replicate, length-append, length-drop, length-replicate, length-take, take-append-drop, replicate-append-replicate}
-use lib.Seq.{drop-drop, take-at, drop-at, length-take-le, drop-append-le}
+use lib.ListN.{length, take, drop, getD, replicate, length-drop, length-replicate, take-append-drop, replicate-append-replicate}
+use lib.Seq.{drop-drop, drop-at, length-take-le, drop-append-le}
 use borrow.Rule.Slice.PartMut.{putMid, midOf}
 use lib.Ieee.{Float, nan}
-use Rattle.search.specs.Keep.{Kept, keepOne, nothing}
+use Rattle.search.specs.Keep.{Kept, keepOne}
 use Rattle.search.specs.Rooms.{padTo}
 use Rattle.search.proofs.Sizes.{pad-length}
 use Rattle.slots.specs.Inner.{splice, part, slotAt, putSlot, Held, heldScore, sameHeld, blank, heldIn, Beyond, Blanked}
-use Rattle.slots.proofs.Slots.{slot-fits, length-slot, length-put, put-suc, drop-put}
+use Rattle.slots.proofs.Slots.{length-put, put-suc, drop-put}
 use Rattle.kept.specs.Inner.{firstOf, tiesOf, viewOf, offeredOf, noHolding, Tidy, Ready, Left, Recorded, Begun}
 use Rattle.kept.specs.declared.Holding.{Holding}
 use Rattle.kept.proofs.Steps.{drop-more, take-first, held-put-past, slot-put-same}

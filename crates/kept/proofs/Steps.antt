@@ -1,7 +1,7 @@
 -- One law for each way through the code.
 use mathlib.Core.Path.{_≡_, refl, sym, ap, ap₂, _∙_, subst}
 use mathlib.Core.Bool.{Bool, true, false, not, _&&_, true≢false}
-use mathlib.Core.List.{List, [], _∷_, _++_, append-nil, append-assoc}
+use mathlib.Core.List.{List, [], _∷_, _++_, append-nil}
 use Prim.Native.Nat.{ℕ, zero, suc, _+_, _-_, _*_, _≤_, _<_}
 use native.Mathlib.Omega.{arith}
 use native.Mathlib.Nat.{add-mul, one-mul, suc-mul, mul-le-mul-right, not-suc-le-zero}
@@ -9,16 +9,16 @@ use native.Mathlib.Numerals.{add-one}
 use lib.Dec.{ltb}
 use borrow.Author.Tests.{lt-ltb, le-ltb}
 use lib.ListN.{length, take, drop, getD, set, replicate, length-append, length-drop, length-set, length-replicate, drop-of-length-le, take-append-drop, replicate-append-replicate}
-use lib.Seq.{take-all, drop-drop, take-at, drop-at, length-take-le, take-take, drop-append-le, take-suc-set, drop-set-lt, drop-set-add}
+use lib.Seq.{take-all, drop-drop, take-at, drop-at, length-take-le, drop-append-le, take-suc-set, drop-set-lt, drop-set-add}
 use borrow.Rule.Slice.PartMut.{putMid, midOf}
 use lib.Ieee as Ieee
 use lib.Ieee.{Float, nan}
 use Rattle.ground.specs.Lists.{pick}
-use Rattle.search.specs.Keep.{Kept, tiedTo, tiesTo, lowers, near, has, adding, replaced, lowered, added, keepOne}
+use Rattle.search.specs.Keep.{Kept, tiedTo, lowers, near, has, adding, replaced, lowered, added, keepOne}
 use Rattle.slots.specs.Inner.{splice, part, sameWords, slotAt, putSlot, slotsOf, Held, heldScore, sameHeld, blank, heldIn, Beyond, Pruned}
-use Rattle.slots.proofs.Slots.{slot-fits, length-slot, length-put, slot-suc, put-zero, put-suc, length-held, held-take, held-put, drop-put}
+use Rattle.slots.proofs.Slots.{slot-fits, length-slot, length-put, put-zero, put-suc, length-held, held-take, held-put, drop-put}
 use Rattle.slots.proofs.Unused.{beyond-none, beyond-on, has-held}
-use Rattle.kept.specs.Inner.{firstOf, tiesOf, viewOf, offeredOf, Tidy, Ready, Left, Stepped, Replaced, Lowered, Adding, Added, Recorded}
+use Rattle.kept.specs.Inner.{firstOf, tiesOf, viewOf, offeredOf, Tidy, Stepped, Replaced, Lowered, Adding, Added, Recorded}
 use Rattle.kept.specs.declared.Holding.{Holding}
 
 -- ---- lists

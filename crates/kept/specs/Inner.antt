@@ -1,6 +1,6 @@
 -- The kept rooms as what is kept: slot 0 and score 0 are the incumbent's, the next `count` the tied, the one behind all m of these is the spare.
 use mathlib.Core.Path.{_≡_}
-use mathlib.Core.Bool.{Bool, true, false}
+use mathlib.Core.Bool.{true, false}
 use mathlib.Core.List.{List, [], _∷_, map}
 use Prim.Native.Nat.{ℕ, _+_, _-_, _*_, _≤_, _<_}
 use lib.ListN.{length, take, drop, getD, replicate}

@@ -11,7 +11,7 @@ use lib.Seq.{drop-drop, getD-drop, take-suc-set, take-all, drop-set-lt}
 use lib.Ieee.{Float, nan}
 use Rattle.ground.specs.Lists.{keep, consIf}
 use Rattle.search.specs.Keep.{tiedTo, tiesTo}
-use Rattle.slots.specs.Inner.{Held, heldScore, heldIn, slotAt, putSlot, Beyond, Retained}
+use Rattle.slots.specs.Inner.{Held, heldIn, slotAt, putSlot, Beyond, Retained}
 use Rattle.slots.proofs.Slots.{slot-fits, length-slot, length-put, length-held, held-at, held-take, held-put, drop-put}
 
 -- ---- those of a list that pass a test, kept at its front

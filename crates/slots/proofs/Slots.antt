@@ -1,12 +1,12 @@
 -- A room of words as slots of v words, and with a list of scores as a list of scored words.
-use mathlib.Core.Path.{_≡_, refl, sym, ap, ap₂, _∙_}
+use mathlib.Core.Path.{_≡_, refl, ap, _∙_}
 use mathlib.Core.Logic.{_⊎_, inl, inr, ⊎-elim}
 use mathlib.Core.List.{List, [], _∷_, _++_, append-assoc}
-use Prim.Native.Nat.{ℕ, zero, suc, _+_, _-_, _*_, _≤_, _<_, zero-le}
-use native.Mathlib.Nat.{add-zero, suc-mul, zero-mul, mul-le-mul-right, le-trans, not-suc-le-zero, le-of-suc-le-suc}
+use Prim.Native.Nat.{ℕ, zero, suc, _+_, _-_, _*_, _≤_, _<_}
+use native.Mathlib.Nat.{suc-mul, zero-mul, mul-le-mul-right, le-trans, not-suc-le-zero, le-of-suc-le-suc}
 use native.Mathlib.Omega.{arith}
-use lib.ListN.{length, take, drop, getD, set, length-append, length-drop, length-set}
-use lib.Seq.{take-add, drop-drop, getD-drop, length-take-le, take-at, drop-at, take-all}
+use lib.ListN.{length, take, drop, getD, set, length-append, length-drop}
+use lib.Seq.{take-add, drop-drop, length-take-le, take-at, drop-at}
 use lib.Ieee.{Float, nan}
 use Rattle.slots.specs.Inner.{splice, part, slotAt, putSlot, Held, heldIn}
 use Rattle.slots.proofs.Words.{length-part, length-splice}

@@ -1,21 +1,20 @@
 -- Slots and scores blanked, and what is left of a tied list when its rest is.
-use mathlib.Core.Path.{_≡_, refl, sym, ap, ap₂, _∙_, subst}
+use mathlib.Core.Path.{_≡_, refl, sym, ap, _∙_, subst}
 use mathlib.Core.Bool.{Bool, true, false, _||_}
-use mathlib.Core.List.{List, [], _∷_, _++_, append-nil, append-assoc}
+use mathlib.Core.List.{List, [], _++_, append-nil}
 use Prim.Native.Nat.{ℕ, zero, suc, _+_, _-_, _*_, _≤_, _<_}
 use native.Mathlib.Omega.{arith}
-use native.Mathlib.Nat.{add-mul, one-mul, suc-mul, zero-mul}
-use native.Mathlib.Numerals.{add-one}
-use lib.ListN.{length, take, drop, getD, set, replicate, length-set, length-drop, length-append, length-replicate, drop-of-length-le}
-use lib.Seq.{drop-set-lt, drop-drop, length-take-le, take-at, drop-at}
+use native.Mathlib.Nat.{add-mul, one-mul, zero-mul}
+use lib.ListN.{length, take, drop, set, replicate, length-set, length-replicate, drop-of-length-le}
+use lib.Seq.{drop-set-lt, drop-drop, take-at}
 use lib.Ieee as Ieee
-use lib.Ieee.{Float, nan, binary64}
+use lib.Ieee.{Float, binary64}
 use Rattle.ground.specs.Lists.{any}
 use Rattle.search.specs.Budget.{zeroScore}
-use Rattle.search.specs.Keep.{has, tiesTo}
-use Rattle.slots.specs.Inner.{splice, part, sameWords, slotAt, putSlot, slotsOf, Held, heldScore, sameHeld, blank, heldIn, Beyond, Retained, Blanked, Pruned}
+use Rattle.search.specs.Keep.{has}
+use Rattle.slots.specs.Inner.{splice, part, sameWords, slotAt, putSlot, slotsOf, Held, sameHeld, blank, heldIn, Beyond, Retained, Blanked, Pruned}
 use Rattle.slots.proofs.Words.{Cleared, cleared-none, cleared-more, cleared-all}
-use Rattle.slots.proofs.Slots.{slot-fits, length-slot, length-put, length-held, held-at, held-take, held-put, drop-put}
+use Rattle.slots.proofs.Slots.{slot-fits, length-put, length-held, held-take, held-put, drop-put}
 
 pub beyond-none : {v n : ℕ} (xs : List ℕ) (ss : List Float) → Beyond v n xs ss xs ss
 beyond-none xs ss = record { longx = refl; longs = refl; restx = refl; rests = refl }

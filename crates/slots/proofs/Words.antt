@@ -3,14 +3,14 @@ use mathlib.Core.Path.{_≡_, refl, sym, ap, _∙_}
 use mathlib.Core.Logic.{_⊎_, inl, inr, ⊎-elim}
 use mathlib.Core.Bool.{Bool, true, false, _&&_}
 use mathlib.Core.List.{List, [], _∷_, _++_, append-assoc}
-use Prim.Native.Nat.{ℕ, zero, suc, _+_, _-_, _*_, _≤_, _<_}
+use Prim.Native.Nat.{ℕ, suc, _+_, _-_, _≤_, _<_}
 use native.Mathlib.Nat.{add-zero}
 use native.Mathlib.Numerals.{add-one}
 use native.Mathlib.Omega.{arith}
 use lib.Dec.{eqb}
-use lib.ListN.{length, take, drop, getD, set, replicate, length-append, length-take, length-drop, length-replicate, take-append-drop, drop-of-length-le}
+use lib.ListN.{length, take, drop, getD, set, replicate, length-append, length-drop, length-replicate, take-append-drop}
 use lib.ListN.{List·getD-append, replicate-append-replicate}
-use lib.Seq.{getD-take, take-suc, drop-cons, take-nil, drop-drop, getD-drop, length-take-le, take-at, drop-at, set-at, append-snoc, getD-append-add, take-append-le, take-add}
+use lib.Seq.{getD-take, take-suc, drop-cons, getD-drop, length-take-le, set-at, getD-append-add}
 use borrow.Author.Tests.{eq-eqb, ne-eqb}
 use Rattle.search.specs.Keep.{sameList}
 use Rattle.slots.specs.Inner.{splice, part, sameWords}

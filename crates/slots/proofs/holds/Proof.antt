@@ -17,7 +17,7 @@ holds-spec =
     (tie.spec Inv-loop μ-loop
     (λ c. search looking-none)  -- loop-holds
     (λ c. search needs)  -- add-slot
-    (λ c κs. (search looking-fits, search needs))  -- same-slot-requires
+    (λ c κs. (search looking-fits, search (looking-fits, needs)))  -- same-slot-requires
     (λ c. search looking-found)  -- returns
     (λ c. search needs)  -- add-i
     (λ c. search needs)  -- loop-less

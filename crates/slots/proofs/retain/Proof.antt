@@ -19,7 +19,7 @@ retain-spec =
     (λ c. search needs)  -- mul-t11
     (λ c. search needs)  -- slice-read-t13
     (λ c κs. search needs)  -- ties-requires
-    (λ c κs. (search packing-fits, search packing-fits-k))  -- copy-slot-requires
+    (λ c κs. (search packing-fits, search (packing-fits-k, packing-fits)))  -- copy-slot-requires
     (λ c. search needs)  -- mul-scores
     (λ c. search needs)  -- slice-write-scores
     (λ c. search needs)  -- add-k
