@@ -1,0 +1,599 @@
+-- How each way through a turn of the walk keeps what it keeps to.
+use Prim.Native.Nat.{ℕ, zero, suc, _+_, _-_, _*_, _≤_, _<_}
+use native.Mathlib.Nat.{not-suc-le-zero, eq-or-lt-of-le}
+use native.Mathlib.Numerals.{add-one}
+use native.Mathlib.Omega.{arith}
+use mathlib.Core.Path.{_≡_, refl, sym, ap, ap₂, _∙_}
+use mathlib.Core.Bool.{Bool, true, false, not, _&&_}
+use mathlib.Core.Logic.{_⊎_, inl, inr}
+use mathlib.Core.List.{List, [], _∷_, _++_}
+use lib.Dec.{leb, ltb, eqb}
+use lib.ListN.{length, take, drop, getD}
+use borrow.Author.Tests.{le-leb, lt-leb, lt-ltb, le-ltb}
+use Rattle.ground.specs.Lists.{pick, sum}
+use Rattle.image.specs.declared.Header.{Header}
+use Rattle.image.specs.declared.Family.{Family}
+use Rattle.image.specs.Image.{pathCounts, pathsOf}
+use Rattle.image.specs.Inner.{Started, Grouped, Groups}
+use Rattle.image.specs.Panel.{Panel, panelOf, pathsAt}
+use Rattle.panel.specs.Inner.{Accepted}
+use Rattle.evaluate.specs.declared.Segment.{Segment}
+use Rattle.evaluate.specs.Segments.{Assignment}
+use Rattle.image.proofs.Laws.{panel-families, families-length, path-counts-length}
+use Rattle.search.specs.declared.SearchBudget.{SearchBudget}
+use Rattle.search.specs.declared.Tally.{Tally}
+use Rattle.search.specs.declared.Stop.{Stop}
+use Rattle.search.specs.declared.Stop.the-variants.{Exhausted, Work, Evaluation, Frontier}
+use Rattle.search.specs.Walk.{Place, Frame, Doing, pass, down, give, Act, leave, doing, enter, unitOf, takesMember}
+use Rattle.search.specs.Run.{Walk, Walked, Phase, going, ended, Ending, exhausted, onWork, onEvaluation, onFrontier, limitsOf, root, stacked, begin, spend, handed, doneWith, left, afterAct, run}
+use Rattle.search.specs.Rooms.{frameWidth}
+use Rattle.frames.specs.declared.Stored.{Stored}
+use Rattle.frames.specs.Inner.{Path, noPath, noSegment, longer, pathTo, pathAt, storedAt, placeWith, frameWith, put, frameOf, stackOf, Linked, Alike}
+use Rattle.frames.proofs.Laws.{length-put, drop-put, stored-same, stored-below, path-at, stack-none, stack-top, stack-above, stack-retop, stack-root, stack-push, length-stack, frame-below, frame-push, frame-retop, frame-root, alike-below, alike-path, linked-less, linked-root, linked-push, linked-retop}
+use Rattle.landings.specs.declared.Landing.{Landing}
+use Rattle.advance.specs.declared.Action.{Action}
+use Rattle.advance.specs.declared.Action.the-variants.{Leave, Pass, Down, Give}
+use Rattle.advance.specs.declared.Turn.{Turn}
+use Rattle.advance.specs.Inner.{childOf, entered, Sound, Child, Flagged, taskOf, actOf, Turned, Ready, Moved}
+use Rattle.advance.proofs.Laws.{enter-child, enter-alike, enter-sound, enter-shut, paths-are, path-named, path-some}
+use Rattle.walks.specs.declared.Standing.{Standing}
+use Rattle.walks.specs.declared.Halt.{Halt}
+use Rattle.walks.specs.declared.Halt.the-variants.{Stopped, Due}
+use Rattle.walks.specs.declared.Pause.{Pause}
+use Rattle.walks.specs.Inner.{spentOf, handedOf, doneOf, walkOf, gone, toGo, handing, before, endingOf, assigned, haltedAs, rootOf, Held, Walking, Kept, usedBy, Paused}
+use Rattle.walks.proofs.Steps.{run-after, run-ended, to-go-some, to-go-work, to-go-evaluation, to-go-act}
+
+-- ---- the room
+
+kept-refl : (b : SearchBudget) (xs : List ℕ) → Kept b xs xs
+kept-refl b xs = record { long = refl; rest = refl }
+
+kept-on : {b : SearchBudget} {xs ys zs : List ℕ} → Kept b xs ys → Kept b ys zs → Kept b xs zs
+kept-on k l = record { long = l .long ∙ k .long; rest = l .rest ∙ k .rest }
+
+kept-put : (b : SearchBudget) (xs : List ℕ) (i : ℕ) (f : Stored) → i ≤ b .«max_frontier» → Kept b xs (put xs i f)
+kept-put b xs i f h = record { long = length-put xs i f; rest = drop-put xs i ((b .«max_frontier» + 1) * frameWidth) f (omega arith) }
+
+-- ---- under way
+
+-- in the stack loop: what is left leads to what was left where the loop began
+pub record Going (s : List ℕ) (h : Header) (b : SearchBudget) (family : Family) (start : ℕ) (xs₀ : List ℕ) (t₀ : Tally) (d₀ : ℕ) (xs : List ℕ) (t : Tally) (d : ℕ) (flag : Bool) : Type 0 where
+  pub total : toGo (panelOf s) b t₀ xs₀ d₀ ≡ toGo (panelOf s) b t xs d
+  pub held : Held s h b (family .count) xs t d flag
+  pub kept : Kept b xs₀ xs
+  pub same : t .families ≡ family .number
+  pub groups : Groups s h family
+  pub more : t₀ .work ≤ t .work
+  pub begins : start ≡ sum (take (t .families) (pathCounts h s))
+
+-- in the loop over families
+pub record Outer (s : List ℕ) (h : Header) (b : SearchBudget) (xs₀ : List ℕ) (t₀ : Tally) (d₀ : ℕ) (xs : List ℕ) (t : Tally) (d start : ℕ) (flag : Bool) : Type 0 where
+  pub total : toGo (panelOf s) b t₀ xs₀ d₀ ≡ toGo (panelOf s) b t xs d
+  pub walking : Walking s h b xs t d start flag
+  pub kept : Kept b xs₀ xs
+  pub more : t₀ .work ≤ t .work
+
+pub outer-start : (s : List ℕ) (h : Header) (b : SearchBudget) (xs : List ℕ) (t : Tally) (d start : ℕ) (flag : Bool) → Walking s h b xs t d start flag → Outer s h b xs t d xs t d start flag
+outer-start s h b xs t d start flag w = record { total = refl; walking = w; kept = kept-refl b xs; more = omega arith }
+
+pub going-start : (s : List ℕ) (h : Header) (b : SearchBudget) (family : Family) (xs₀ : List ℕ) (t₀ : Tally) (d₀ : ℕ) (xs : List ℕ) (t : Tally) (d start : ℕ) (flag : Bool) → Outer s h b xs₀ t₀ d₀ xs t d start flag
+    → Groups s h family → family .number ≡ t .families → Going s h b family start xs t d xs t d flag
+going-start s h b family xs₀ t₀ d₀ xs t d start flag o g e =
+    let c : getD (pathCounts h s) (t .families) 0 ≡ family .count = ap (λ (n : ℕ). getD (pathCounts h s) n 0) (sym e) ∙ sym (g .count) in
+    record { total = refl; held = rw c at (o .walking .held); kept = kept-refl b xs; same = sym e; groups = g; more = omega arith; begins = o .walking .begins }
+
+-- ---- a unit
+
+pub ready-of : (s : List ℕ) (h : Header) (starts : List ℕ) (b : SearchBudget) (family : Family) (start : ℕ) (xs₀ : List ℕ) (t₀ : Tally) (d₀ : ℕ) (xs : List ℕ) (t : Tally) (d : ℕ) (flag : Bool) → Accepted s h → Started s h starts
+    → Going s h b family start xs₀ t₀ d₀ xs t d flag → (d ≡ 0 → ⊥) → Ready s h starts family xs (d - 1) flag
+unfolding frameOf
+ready-of s h starts b family start xs₀ t₀ d₀ xs t d flag acc st g n =
+    let deep = g .held .deep in
+    let room = g .held .room in
+    record { accepted = acc; started = st; groups = g .groups; sound = g .held .sound (d - 1) (omega arith); flagged = g .held .flagged (omega arith); room = omega arith }
+
+pick-small : (b : Bool) → pick b 1 0 ≤ 1
+pick-small true = omega arith
+pick-small false = omega arith
+
+pub taken-small : (s : List ℕ) (h : Header) (family : Family) (xs ys : List ℕ) (i : ℕ) (u : Turn) → Moved s h family xs ys i u → u .taken ≤ 1
+taken-small s h family xs ys i u m = rw (m .turned .taken) (pick-small (takesMember (frameWith (pathAt xs i) (storedAt xs i))))
+
+pub taken-before : (s : List ℕ) (h : Header) (b : SearchBudget) (family : Family) (start : ℕ) (xs₀ : List ℕ) (t₀ : Tally) (d₀ : ℕ) (xs : List ℕ) (t : Tally) (d : ℕ) (flag : Bool)
+    → Going s h b family start xs₀ t₀ d₀ xs t d flag → t .donors ≤ t .work
+taken-before s h b family start xs₀ t₀ d₀ xs t d flag g = g .held .taken
+
+pub less-work : (b : SearchBudget) (t u : Tally) (k : ℕ) → u ≡ spentOf t k → t .work < b .«max_work» → b .«max_work» - u .work < b .«max_work» - t .work
+less-work b t u k e l = rw e (omega arith)
+
+-- a frame left is the family's end, or the one below goes on
+left-gone : (p : Panel) (w : Walk) (k : ℕ) (rest : List Frame) → left p w k rest ≡ gone p (spend w k rest) rest
+left-gone p w k [] = refl
+left-gone p w k (g ∷ rest) = refl
+
+spend-is : (t : Tally) (k : ℕ) (st rest : List Frame) → spend (walkOf t st) k rest ≡ walkOf (spentOf t k) rest
+spend-is t k st rest = rw add-one
+
+module _ (s : List ℕ) (h : Header) (b : SearchBudget) (family : Family) (start : ℕ) (xs₀ : List ℕ) (t₀ : Tally) (d₀ : ℕ) (xs : List ℕ) (t : Tally) (d : ℕ) (flag : Bool) (ys : List ℕ) (u : Tally) (turn : Turn)
+    (g : Going s h b family start xs₀ t₀ d₀ xs t d flag) (n : d ≡ 0 → ⊥) (lw : t .work < b .«max_work») (le : t .evaluations < b .«max_evaluations») (m : Moved s h family xs ys (d - 1) turn)
+    (eu : u ≡ spentOf t (turn .taken)) (acc : Accepted s h) where
+  some : 0 < d
+  some = omega arith
+
+  top-room : (d - 1 + 1) * frameWidth ≤ length xs
+  top-room = let r = g .held .room in let e = g .held .deep in omega arith
+
+  act-told : unitOf (panelOf s) (pathsAt (panelOf s) (t .families)) (frameOf xs (d - 1)) ≡ actOf (pathAt xs (d - 1)) (storedAt xs (d - 1)) (turn .action) (turn .frame)
+  unfolding frameOf
+  act-told = rw (g .same) (sym (m .turned .act))
+
+  taken-told : pick (takesMember (frameOf xs (d - 1))) 1 0 ≡ turn .taken
+  unfolding frameOf
+  taken-told = sym (m .turned .taken)
+
+  step : toGo (panelOf s) b t₀ xs₀ d₀
+      ≡ run (panelOf s) b (b .«max_work» - (t .work + 1))
+      (afterAct (panelOf s) (limitsOf b) (walkOf t (stackOf xs d)) (turn .taken) (stackOf xs (d - 1)) (actOf (pathAt xs (d - 1)) (storedAt xs (d - 1)) (turn .action) (turn .frame)))
+  step =
+      g .total ∙ to-go-act (panelOf s) b t xs d some lw _ le act-told
+      ∙ ap (λ (k : ℕ). run (panelOf s) b (b .«max_work» - (t .work + 1)) (afterAct (panelOf s) (limitsOf b) (walkOf t (stackOf xs d)) k (stackOf xs (d - 1)) (actOf (pathAt xs (d - 1)) (storedAt xs (d - 1)) (turn .action) (turn .frame)))) taken-told
+
+  -- the stack with the frame as it is then
+  stack-then : stackOf ys d ≡ frameWith (pathAt xs (d - 1)) (turn .frame) ∷ stackOf xs (d - 1)
+  stack-then =
+      let e : d - 1 + 1 ≡ d = omega arith in
+      ap₂ (λ (l : List ℕ) (k : ℕ). stackOf l k) (m .room) (sym e) ∙ stack-retop xs (d - 1) (turn .frame) top-room (m .turned .alike)
+
+  below-then : stackOf ys (d - 1) ≡ stackOf xs (d - 1)
+  below-then = ap (λ (l : List ℕ). stackOf l (d - 1)) (m .room) ∙ stack-above xs (d - 1) (d - 1) (turn .frame) (omega arith)
+
+  top-stored : storedAt ys (d - 1) ≡ turn .frame
+  top-stored = ap (λ (l : List ℕ). storedAt l (d - 1)) (m .room) ∙ stored-same xs (d - 1) (turn .frame) top-room
+
+  top-path : pathAt ys (d - 1) ≡ pathAt xs (d - 1)
+  top-path = ap (λ (l : List ℕ). pathAt l (d - 1)) (m .room) ∙ path-at xs (d - 1) (turn .frame) top-room (m .turned .alike)
+
+  top-frame : frameOf ys (d - 1) ≡ frameWith (pathAt xs (d - 1)) (turn .frame)
+  top-frame = ap (λ (l : List ℕ). frameOf l (d - 1)) (m .room) ∙ frame-retop xs (d - 1) (turn .frame) top-room (m .turned .alike)
+
+  under : (i : ℕ) → i < d - 1 → frameOf ys i ≡ frameOf xs i
+  under i l = ap (λ (z : List ℕ). frameOf z i) (m .room) ∙ frame-below xs (d - 1) i (turn .frame) l
+
+  kept-then : Kept b xs₀ ys
+  kept-then = let e = g .held .deep in rw (m .room) (kept-on (g .kept) (kept-put b xs (d - 1) (turn .frame) (omega arith)))
+
+  sound-then : (i : ℕ) → (i ≡ d - 1) ⊎ (i < d - 1) → Sound s h (family .count) (storedAt ys i)
+  sound-then i (inl e) = rw (e, top-stored) (m .turned .sound)
+  sound-then i (inr l) = rw (m .room, stored-below xs (d - 1) i (turn .frame) l) (g .held .sound i (omega arith))
+
+  room-then : (b .«max_frontier» + 1) * frameWidth ≤ length ys
+  room-then = let r = g .held .room in let e = length-put xs (d - 1) (turn .frame) in rw (m .room) (omega arith)
+
+  linked-then : Linked ys d
+  linked-then =
+      let e : d - 1 + 1 ≡ d = omega arith in
+      rw (m .room) (rw e at (linked-retop xs (d - 1) (turn .frame) top-room (m .turned .alike) (rw (← e) at (g .held .linked))))
+
+  worked-then : u .work ≤ b .«max_work»
+  worked-then = rw eu (omega arith)
+
+  taken-then : u .donors ≤ u .work
+  taken-then = let k = g .held .taken in let o = taken-small s h family xs ys (d - 1) turn m in rw eu (omega arith)
+
+  same-then : u .families ≡ family .number
+  same-then = rw eu (g .same)
+
+  begins-then : start ≡ sum (take (u .families) (pathCounts h s))
+  begins-then = rw eu (g .begins)
+
+  more-then : t₀ .work ≤ u .work
+  more-then = let o = g .more in rw eu (omega arith)
+
+  flagged-then : Flagged (panelOf s) (frameOf ys (d - 1)) (turn .clear)
+  flagged-then = rw top-frame (m .turned .flagged)
+
+  -- d frames as they were, the top as it is then
+  held-then : Held s h b (family .count) ys u d (turn .clear)
+  held-then =
+      record {
+        deep = g .held .deep;
+        small = g .held .small;
+        room = room-then;
+        sound = λ i l. sound-then i (eq-or-lt-of-le (omega arith));
+        settled = λ i l. rw (under i (omega arith)) (g .held .settled i l);
+        flagged = λ l. flagged-then;
+        linked = linked-then;
+        worked = worked-then;
+        taken = taken-then;
+      }
+
+  spend-told : (st : List Frame) → run (panelOf s) b (b .«max_work» - (t .work + 1)) (going (spend (walkOf t (stackOf xs d)) (turn .taken) st)) ≡ run (panelOf s) b (b .«max_work» - u .work) (going (walkOf u st))
+  spend-told st = rw (spend-is t (turn .taken) (stackOf xs d) st, eu)
+
+  pub by-pass : turn .action ≡ Pass → Going s h b family start xs₀ t₀ d₀ ys u d (turn .clear)
+  by-pass e =
+      record {
+        total =
+            step
+            ∙ (rw e
+            (spend-told (frameWith (pathAt xs (d - 1)) (turn .frame) ∷ stackOf xs (d - 1))
+            ∙ ap (λ (st : List Frame). run (panelOf s) b (b .«max_work» - u .work) (going (walkOf u st))) (sym stack-then)
+            ∙ sym (to-go-some (panelOf s) b u ys d some)));
+        held = held-then;
+        kept = kept-then;
+        same = same-then;
+        groups = g .groups;
+        more = more-then;
+        begins = begins-then;
+      }
+
+  leave-told : run (panelOf s) b (b .«max_work» - (t .work + 1)) (gone (panelOf s) (spend (walkOf t (stackOf xs d)) (turn .taken) (stackOf xs (d - 1))) (stackOf xs (d - 1))) ≡ toGo (panelOf s) b u ys (d - 1)
+  unfolding toGo
+  leave-told = rw (spend-is t (turn .taken) (stackOf xs d) (stackOf xs (d - 1)), below-then, eu)
+
+  pub by-leave : turn .action ≡ Leave → Going s h b family start xs₀ t₀ d₀ ys u (d - 1) (turn .clear)
+  by-leave e =
+      record {
+        total = step ∙ (rw e (ap (run (panelOf s) b (b .«max_work» - (t .work + 1))) (left-gone (panelOf s) (walkOf t (stackOf xs d)) (turn .taken) (stackOf xs (d - 1))) ∙ leave-told));
+        held =
+            record {
+              deep = let o = g .held .deep in omega arith;
+              small = g .held .small;
+              room = room-then;
+              sound = λ i l. sound-then i (inr l);
+              settled = λ i l. rw (under i (omega arith)) (g .held .settled i (omega arith));
+              flagged = λ l. rw (under (d - 1 - 1) (omega arith), m .turned .left e) (g .held .settled (d - 1 - 1) (omega arith));
+              linked = linked-less ys d (d - 1) linked-then (omega arith);
+              worked = worked-then;
+              taken = taken-then;
+            };
+        kept = kept-then;
+        same = same-then;
+        groups = g .groups;
+        more = more-then;
+        begins = begins-then;
+      }
+
+  -- ---- a child
+
+  module _ (c : Stored) (ea : turn .action ≡ Down c) where
+    down-room : (d - 1 + 2) * frameWidth ≤ length ys
+    down-room = let r = room-then in let o = g .held .deep in omega arith
+
+    path-down : (e : Stored) → Alike e c → pathTo (pathAt ys (d - 1)) (storedAt ys (d - 1)) e ≡ pathTo (pathAt xs (d - 1)) (storedAt xs (d - 1)) c
+    path-down e k =
+        rw (top-path, top-stored)
+        (alike-below (pathAt xs (d - 1)) (turn .frame) (storedAt xs (d - 1)) e (m .turned .alike) ∙ alike-path (pathAt xs (d - 1)) (storedAt xs (d - 1)) e c k)
+
+    pub child-lane : c .source < h .lanes
+    child-lane = m .turned .child c ea .lane
+
+    module _ (e : Stored) (zs : List ℕ) (ee : e ≡ entered (panelOf s) c) (ez : zs ≡ put ys d e) (lf : d < b .«max_frontier») where
+      alike-child : Alike e c
+      alike-child = rw ee (enter-alike (panelOf s) c)
+
+      back : d - 1 + 1 ≡ d
+      back = omega arith
+
+      frame-down : frameWith (pathTo (pathAt xs (d - 1)) (storedAt xs (d - 1)) c) e ≡ enter (panelOf s) (placeWith (pathTo (pathAt xs (d - 1)) (storedAt xs (d - 1)) c) c)
+      frame-down = rw ee (enter-child s h (family .count) (panelOf s) (pathTo (pathAt xs (d - 1)) (storedAt xs (d - 1)) c) c (m .turned .child c ea))
+
+      stack-down : stackOf zs (d + 1) ≡ enter (panelOf s) (placeWith (pathTo (pathAt xs (d - 1)) (storedAt xs (d - 1)) c) c) ∷ frameWith (pathAt xs (d - 1)) (turn .frame) ∷ stackOf xs (d - 1)
+      stack-down =
+          let q : stackOf (put ys d e) (d + 1) ≡ frameWith (pathTo (pathAt ys (d - 1)) (storedAt ys (d - 1)) e) e ∷ stackOf ys d = rw back at (stack-push ys (d - 1) e down-room) in
+          ap (λ (l : List ℕ). stackOf l (d + 1)) ez ∙ q
+          ∙ ap₂ (λ (x : Frame) (l : List Frame). x ∷ l) (ap (λ (a : Path). frameWith a e) (path-down e alike-child) ∙ frame-down) stack-then
+
+      top-down : frameOf zs d ≡ frameWith (pathTo (pathAt ys (d - 1)) (storedAt ys (d - 1)) e) e
+      top-down = ap (λ (l : List ℕ). frameOf l d) ez ∙ (rw back at (frame-push ys (d - 1) e down-room))
+
+      here-room : (d + 1) * frameWidth ≤ length ys
+      here-room = let r = room-then in omega arith
+
+      under-down : (i : ℕ) → i < d → frameOf zs i ≡ frameOf ys i
+      under-down i l = ap (λ (z : List ℕ). frameOf z i) ez ∙ frame-below ys d i e l
+
+      sound-down : (i : ℕ) → (i ≡ d) ⊎ (i < d) → Sound s h (family .count) (storedAt zs i)
+      sound-down i (inl q) = rw (q, ez, stored-same ys d e here-room, ee) (enter-sound s h (family .count) c acc (m .turned .child c ea))
+      sound-down i (inr l) = rw (ez, stored-below ys d i e l) (held-then .sound i l)
+
+      settled-down : (i : ℕ) → (i ≡ d - 1) ⊎ (i < d - 1) → Flagged (panelOf s) (frameOf zs i) true
+      settled-down i (inl q) = rw (q, under-down (d - 1) (omega arith)) (rw (m .turned .kept c ea) at flagged-then)
+      settled-down i (inr l) = rw (under-down i (omega arith)) (held-then .settled i (omega arith))
+
+      full-not : leb (b .«max_frontier») (suc (length (stackOf xs (d - 1)))) ≡ false
+      full-not = rw (length-stack xs (d - 1)) (lt-leb (b .«max_frontier») (suc (d - 1)) (omega arith))
+
+      pub by-down : Going s h b family start xs₀ t₀ d₀ zs u (d + 1) (turn .clear)
+      by-down =
+          record {
+            total =
+                step
+                ∙ (rw (ea, full-not)
+                (spend-told (enter (panelOf s) (placeWith (pathTo (pathAt xs (d - 1)) (storedAt xs (d - 1)) c) c) ∷ frameWith (pathAt xs (d - 1)) (turn .frame) ∷ stackOf xs (d - 1))
+                ∙ ap (λ (st : List Frame). run (panelOf s) b (b .«max_work» - u .work) (going (walkOf u st))) (sym stack-down)
+                ∙ sym (to-go-some (panelOf s) b u zs (d + 1) (omega arith))));
+            held =
+                record {
+                  deep = omega arith;
+                  small = g .held .small;
+                  room = let r = room-then in let q = length-put ys d e in rw ez (omega arith);
+                  sound = λ i l. sound-down i (eq-or-lt-of-le (omega arith));
+                  settled = λ i l. settled-down i (eq-or-lt-of-le (omega arith));
+                  flagged = λ l. child-flag;
+                  linked = rw ez (rw back at (linked-push ys (d - 1) e down-room (rw (← back) at linked-then)));
+                  worked = worked-then;
+                  taken = taken-then;
+                };
+            kept = rw ez (kept-on kept-then (kept-put b ys d e (omega arith)));
+            same = same-then;
+            groups = g .groups;
+            more = more-then;
+            begins = begins-then;
+          }
+        where
+          child-flag : Flagged (panelOf s) (frameOf zs (d + 1 - 1)) (turn .clear)
+          child-flag =
+              let q : d + 1 - 1 ≡ d = omega arith in
+              rw (q, top-down, ee) (enter-shut (panelOf s) (panelOf s) (pathTo (pathAt ys (d - 1)) (storedAt ys (d - 1)) (entered (panelOf s) c)) s h (family .count) c (turn .clear) (m .turned .child c ea))
+
+-- ---- the ways out
+
+not-due : {A : Type 0} (e : Stop) (p : Segment) → Stopped e ≡ Due p → A
+not-due e p q = let z : _≡_ {A = ℕ} 0 1 = cc in absurd (omega arith)
+
+linked-stop : (xs : List ℕ) (d : ℕ) (e f : Stop) → Linked xs (usedBy e d) → Stopped e ≡ Stopped f → Linked xs (usedBy f d)
+linked-stop xs d e f k q = let z : f ≡ e = cc in rw z k
+
+module _ (s : List ℕ) (h : Header) (b : SearchBudget) (family : Family) (start : ℕ) (xs₀ : List ℕ) (t₀ : Tally) (d₀ : ℕ) (xs : List ℕ) (t : Tally) (d : ℕ) (flag : Bool) (zs : List ℕ) (from : Standing) (flag₀ : Bool)
+    (o : Outer s h b zs (from .tally) (from .depth) xs₀ t₀ d₀ start flag₀) (g : Going s h b family start xs₀ t₀ d₀ xs t d flag) where
+  stop-here : (e : Stop) → usedBy e d ≡ d → toGo (panelOf s) b t xs d ≡ record { ending = endingOf e (frameOf xs d .place); walk = walkOf t (stackOf xs d) }
+      → Paused s h b zs xs from (record { halt = Stopped e; at = record { tally = t; depth = d; start = start; clear = flag } })
+  stop-here e used q =
+      record {
+        outcome = o .total ∙ g .total ∙ q;
+        kept = kept-on (o .kept) (g .kept);
+        again = λ p z. not-due e p z;
+        more = λ p z. not-due e p z;
+        linked = λ f z. linked-stop xs d e f (rw used (g .held .linked)) z;
+        deep = g .held .deep;
+      }
+
+  pub by-work : (d ≡ 0 → ⊥) → b .«max_work» ≤ t .work → Paused s h b zs xs from (record { halt = Stopped Work; at = record { tally = t; depth = d; start = start; clear = flag } })
+  by-work n l = stop-here Work refl (to-go-work (panelOf s) b t xs d (omega arith) l)
+
+  pub by-evaluation : (d ≡ 0 → ⊥) → t .work < b .«max_work» → b .«max_evaluations» ≤ t .evaluations
+      → Paused s h b zs xs from (record { halt = Stopped Evaluation; at = record { tally = t; depth = d; start = start; clear = flag } })
+  by-evaluation n lw l = stop-here Evaluation refl (to-go-evaluation (panelOf s) b t xs d (omega arith) lw l)
+
+  module _ (ys : List ℕ) (u : Tally) (turn : Turn) (n : d ≡ 0 → ⊥) (lw : t .work < b .«max_work») (le : t .evaluations < b .«max_evaluations») (m : Moved s h family xs ys (d - 1) turn) (eu : u ≡ spentOf t (turn .taken))
+      (acc : Accepted s h) where
+    then-held : Held s h b (family .count) ys u d (turn .clear)
+    then-held = held-then s h b family start xs₀ t₀ d₀ xs t d flag ys u turn g n lw le m eu acc
+
+    module _ (c : Stored) (vs : List ℕ) (ea : turn .action ≡ Down c) (ev : vs ≡ put ys d c) (full : b .«max_frontier» ≤ d) where
+      back-one : d - 1 + 1 ≡ d
+      back-one = omega arith
+
+      room-one : (d - 1 + 2) * frameWidth ≤ length ys
+      room-one = let r = then-held .room in let e = then-held .deep in omega arith
+
+      pending-place : frameOf vs d .place ≡ placeWith (pathTo (pathAt xs (d - 1)) (storedAt xs (d - 1)) c) c
+      pending-place =
+          let q : frameOf (put ys d c) d ≡ frameWith (pathTo (pathAt ys (d - 1)) (storedAt ys (d - 1)) c) c = rw back-one at (frame-push ys (d - 1) c room-one) in
+          ap (λ (l : List ℕ). frameOf l d .place) ev ∙ ap (λ (f : Frame). f .place) q
+          ∙ ap (λ (a : Path). placeWith a c) (path-down s h b family start xs₀ t₀ d₀ xs t d flag ys u turn g n lw le m eu acc c ea c (record { slot = refl; source = refl; reverse = refl; start = refl; end = refl }))
+
+      stack-full : stackOf vs d ≡ frameWith (pathAt xs (d - 1)) (turn .frame) ∷ stackOf xs (d - 1)
+      stack-full = ap (λ (l : List ℕ). stackOf l d) ev ∙ stack-above ys d d c (omega arith) ∙ stack-then s h b family start xs₀ t₀ d₀ xs t d flag ys u turn g n lw le m eu acc
+
+      is-full : leb (b .«max_frontier») (suc (length (stackOf xs (d - 1)))) ≡ true
+      is-full = rw (length-stack xs (d - 1)) (le-leb (b .«max_frontier») (suc (d - 1)) (omega arith))
+
+      pub by-frontier : Paused s h b zs vs from (record { halt = Stopped Frontier; at = record { tally = u; depth = d; start = start; clear = turn .clear } })
+      by-frontier =
+          record {
+            outcome =
+                o .total ∙ step s h b family start xs₀ t₀ d₀ xs t d flag ys u turn g n lw le m eu acc
+                ∙ (rw (ea, is-full)
+                (run-ended (panelOf s) b (b .«max_work» - (t .work + 1)) (onFrontier (placeWith (pathTo (pathAt xs (d - 1)) (storedAt xs (d - 1)) c) c)) (spend (walkOf t (stackOf xs d)) (turn .taken) (frameWith (pathAt xs (d - 1)) (turn .frame) ∷ stackOf xs (d - 1)))
+                ∙ rw (pending-place, stack-full, eu, spend-is t (turn .taken) (stackOf xs d) (frameWith (pathAt xs (d - 1)) (turn .frame) ∷ stackOf xs (d - 1)))));
+            kept =
+                rw ev
+                (kept-on (o .kept) (kept-on (kept-then s h b family start xs₀ t₀ d₀ xs t d flag ys u turn g n lw le m eu acc) (kept-put b ys d c (then-held .deep))));
+            again = λ p z. not-due Frontier p z;
+            more = λ p z. not-due Frontier p z;
+            linked = λ f z. linked-stop vs d Frontier f (rw ev (rw back-one at (linked-push ys (d - 1) c room-one (rw (← back-one) at (then-held .linked))))) z;
+            deep = then-held .deep;
+          }
+
+    module _ (p : Segment) (v : Tally) (ea : turn .action ≡ Give p) (ev : v ≡ handedOf u) where
+      handed-is : (st : List Frame) (a : Assignment) → handed (spend (walkOf t (stackOf xs d)) (turn .taken) st) a ≡ handing a (walkOf (handedOf (spentOf t (turn .taken))) st)
+      handed-is st a = simp add-one
+
+      due-families : v .families ≡ t .families
+      due-families = rw (ev, eu)
+
+      due-held : Held s h b (getD (pathCounts h s) (v .families) 0) ys v d (turn .clear)
+      due-held =
+          let c : family .count ≡ getD (pathCounts h s) (v .families) 0 = g .groups .count ∙ ap (λ (k : ℕ). getD (pathCounts h s) k 0) (sym (due-families ∙ g .same)) in
+          let k = rw c at then-held in
+          record {
+            deep = k .deep;
+            small = k .small;
+            room = k .room;
+            sound = k .sound;
+            settled = k .settled;
+            flagged = k .flagged;
+            linked = k .linked;
+            worked = rw ev (k .worked);
+            taken = rw ev (k .taken);
+          }
+
+      pub by-due : Paused s h b zs ys from (record { halt = Due p; at = record { tally = v; depth = d; start = start; clear = turn .clear } })
+      by-due =
+          record {
+            outcome =
+                o .total ∙ step s h b family start xs₀ t₀ d₀ xs t d flag ys u turn g n lw le m eu acc
+                ∙ (rw ea
+                (ap (λ (w : Walk). run (panelOf s) b (b .«max_work» - (t .work + 1)) (going w)) (handed-is (frameWith (pathAt xs (d - 1)) (turn .frame) ∷ stackOf xs (d - 1)) (record { family = t .families; routes = longer false (pathAt xs (d - 1)) p .routes }))
+                ∙ run-after (panelOf s) b (record { family = t .families; routes = longer false (pathAt xs (d - 1)) p .routes }) (b .«max_work» - (t .work + 1)) (walkOf (handedOf (spentOf t (turn .taken))) (frameWith (pathAt xs (d - 1)) (turn .frame) ∷ stackOf xs (d - 1)))
+                ∙ rw
+                (to-go-some (panelOf s) b v ys d (omega arith), stack-then s h b family start xs₀ t₀ d₀ xs t d flag ys u turn g n lw le m eu acc, top-path s h b family start xs₀ t₀ d₀ xs t d flag ys u turn g n lw le m eu acc, ev, eu)));
+            kept = kept-on (o .kept) (kept-then s h b family start xs₀ t₀ d₀ xs t d flag ys u turn g n lw le m eu acc);
+            again = λ q z.
+                record {
+                  held = due-held;
+                  some = omega arith;
+                  left = (let a = g .groups .family in let c = due-families in let e = g .same in omega arith);
+                  begins = rw due-families (g .begins);
+                };
+            more = λ q z. (let a = o .more in let c = g .more in rw (ev, eu) (omega arith));
+            linked = λ f z. (let y : _≡_ {A = ℕ} 0 1 = cc in absurd (omega arith));
+            deep = then-held .deep;
+          }
+
+-- ---- the next family
+
+families-are : (s : List ℕ) (h : Header) → Accepted s h → length (panelOf s .families) ≡ h .families
+families-are s h acc = ap length (panel-families s h (acc .counted .framed)) ∙ families-length s h
+
+module _ (s : List ℕ) (h : Header) (family : Family) (acc : Accepted s h) (gs : Groups s h family) where
+  pub root-lane : (lane : ℕ) → lane ≡ getD (pathsOf h s (family .number)) 0 0 → lane < h .lanes
+  root-lane lane e = path-named s h family 0 lane acc gs (path-some s h family acc gs) e
+
+  root-child : Child s h (family .count) (childOf 0 (record { source = getD (pathsAt (panelOf s) (family .number)) 0 0; cut = 0; reverse = false }) noSegment)
+  root-child =
+      record {
+        lane = rw (paths-are s h (family .number) (acc .counted .framed)) (root-lane _ refl);
+        slot = path-some s h family acc gs;
+        waiting = refl;
+        noNext = refl;
+        noHub = refl;
+        closed = refl;
+      }
+
+  pub root-told : (lane : ℕ) (f : Stored) (xs ys : List ℕ) (n : ℕ) → family .number ≡ n → lane ≡ getD (pathsOf h s (family .number)) 0 0
+      → f ≡ entered (panelOf s) (record { slot = 0; source = lane; cut = 0; reverse = false; terminal = true; next = 0; «hub_next» = 0; «hub_end» = 0; start = 0; end = 0 }) → ys ≡ put xs 0 f → ys ≡ put xs 0 (rootOf (panelOf s) n)
+  root-told lane f xs ys n en el ef ey = ey ∙ rw (ef, el, ← en, paths-are s h (family .number) (acc .counted .framed))
+
+to-go-none : (p : Panel) (b : SearchBudget) (t : Tally) (xs : List ℕ) (d : ℕ) → d ≡ 0 → toGo p b t xs d ≡ run p b (b .«max_work» - t .work) (begin p (doneWith (walkOf t [])))
+unfolding toGo
+to-go-none p b t xs d e = rw (e, stack-none xs)
+
+module _ (s : List ℕ) (h : Header) (b : SearchBudget) (family : Family) (start : ℕ) (xs₀ : List ℕ) (t₀ : Tally) (d₀ : ℕ) (xs : List ℕ) (t : Tally) (d : ℕ) (flag : Bool) (v : Tally) (next : ℕ) (acc : Accepted s h)
+    (g : Going s h b family start xs₀ t₀ d₀ xs t d flag) (none : d ≡ 0) (ev : v ≡ doneOf t) (es : next ≡ sum (take (family .number + 1) (pathCounts h s))) where
+  done-is : doneWith (walkOf t []) ≡ walkOf v []
+  done-is = rw (ev, add-one)
+
+  number-next : family .number + 1 ≡ v .families
+  number-next = let e = g .same in rw ev (omega arith)
+
+  pub start-next : next ≡ sum (take (v .families) (pathCounts h s))
+  start-next = rw (← number-next) es
+
+  suc-next : suc (t .families) ≡ v .families
+  suc-next = rw (ev, add-one)
+
+  pub by-exhausted : (zs : List ℕ) (from : Standing) (flag₀ : Bool) → Outer s h b zs (from .tally) (from .depth) xs₀ t₀ d₀ start flag₀ → h .families ≤ v .families
+      → Paused s h b zs xs from (record { halt = Stopped Exhausted; at = record { tally = v; depth = d; start = next; clear = flag } })
+  by-exhausted zs from flag₀ o le =
+      let over : ltb (suc (t .families)) (length (panelOf s .families)) ≡ false = rw (families-are s h acc, suc-next) (le-ltb (v .families) (h .families) le) in
+      record {
+        outcome =
+            o .total ∙ g .total ∙ to-go-none (panelOf s) b t xs d none
+            ∙ (rw over (run-ended (panelOf s) b (b .«max_work» - t .work) exhausted (doneWith (walkOf t [])) ∙ rw (done-is, none, stack-none xs)));
+        kept = kept-on (o .kept) (g .kept);
+        again = λ p z. not-due Exhausted p z;
+        more = λ p z. not-due Exhausted p z;
+        linked = λ f z. linked-stop xs d Exhausted f (g .held .linked) z;
+        deep = g .held .deep;
+      }
+
+  module _ (lt : v .families < h .families) (ws : List ℕ) (ew : ws ≡ put xs 0 (rootOf (panelOf s) (v .families))) where
+    family-next : Family
+    family-next = record { number = v .families; start = next; count = getD (pathCounts h s) (v .families) 0 }
+
+    groups-next : Groups s h (record { number = v .families; start = next; count = getD (pathCounts h s) (v .families) 0 })
+    groups-next = record { grouped = acc .grouped; family = lt; count = refl; start = start-next }
+
+    child-next : Child s h (getD (pathCounts h s) (v .families) 0) (childOf 0 (record { source = getD (pathsAt (panelOf s) (v .families)) 0 0; cut = 0; reverse = false }) noSegment)
+    child-next = root-child s h (record { number = v .families; start = next; count = getD (pathCounts h s) (v .families) 0 }) acc groups-next
+
+    room-next : frameWidth ≤ length xs
+    room-next = let r = g .held .room in omega arith
+
+    stack-next : stackOf ws 1 ≡ root (panelOf s) (v .families) ∷ []
+    stack-next =
+        ap (λ (l : List ℕ). stackOf l 1) ew ∙ stack-root xs (rootOf (panelOf s) (v .families)) room-next
+        ∙ ap (λ (f : Frame). f ∷ []) (enter-child s h (getD (pathCounts h s) (v .families) 0) (panelOf s) noPath _ child-next)
+
+    total-next : toGo (panelOf s) b t xs d ≡ toGo (panelOf s) b v ws 1
+    total-next =
+        let more : ltb (suc (t .families)) (length (panelOf s .families)) ≡ true = rw (families-are s h acc, suc-next) (lt-ltb (v .families) (h .families) lt) in
+        let same : t .work ≡ v .work = rw ev in
+        to-go-none (panelOf s) b t xs d none
+        ∙ (rw more
+        (ap (λ (w : Walk). run (panelOf s) b (b .«max_work» - t .work) (going w)) root-walk
+        ∙ (rw same (ap (λ (st : List Frame). run (panelOf s) b (b .«max_work» - v .work) (going (walkOf v st))) (sym stack-next) ∙ sym (to-go-some (panelOf s) b v ws 1 (omega arith))))))
+      where
+        root-walk : stacked (doneWith (walkOf t [])) (root (panelOf s) (suc (t .families)) ∷ []) ≡ walkOf v (root (panelOf s) (v .families) ∷ [])
+        root-walk = rw (ev, add-one)
+
+    pub by-next : (zs : List ℕ) (tz : Tally) (dz : ℕ) (flag₀ : Bool) → Outer s h b zs tz dz xs₀ t₀ d₀ start flag₀ → Outer s h b zs tz dz ws v 1 next true
+    by-next zs tz dz flag₀ o =
+        record {
+          total = o .total ∙ g .total ∙ total-next;
+          walking =
+              record {
+                held =
+                    record {
+                      deep = omega (arith, o .walking .held .deep, o .walking .some);
+                      small = g .held .small;
+                      room = let r = g .held .room in let e = length-put xs 0 (rootOf (panelOf s) (v .families)) in rw ew (omega arith);
+                      sound = λ i l. sound-root i (omega arith);
+                      settled = λ i l. absurd (omega arith);
+                      flagged = λ l. flag-root;
+                      linked = rw ew (linked-root xs (rootOf (panelOf s) (v .families)) room-next root-start root-end);
+                      worked = rw ev (g .held .worked);
+                      taken = rw ev (g .held .taken);
+                    };
+                some = omega arith;
+                left = lt;
+                begins = start-next;
+              };
+          kept = rw ew (kept-on (o .kept) (kept-on (g .kept) (kept-put b xs 0 (rootOf (panelOf s) (v .families)) (omega arith))));
+          more = (let a = o .more in let c = g .more in rw ev (omega arith));
+        }
+      where
+        sound-root : (i : ℕ) → i ≡ 0 → Sound s h (getD (pathCounts h s) (v .families) 0) (storedAt ws i)
+        sound-root i e = rw (e, ew, stored-same xs 0 (rootOf (panelOf s) (v .families)) room-next) (enter-sound s h (getD (pathCounts h s) (v .families) 0) _ acc child-next)
+
+        flag-root : Flagged (panelOf s) (frameOf ws (1 - 1)) true
+        flag-root =
+            let z : 1 - 1 ≡ 0 = omega arith in
+            rw (z, ew, frame-root xs (rootOf (panelOf s) (v .families)) room-next) (enter-shut (panelOf s) (panelOf s) noPath s h (getD (pathCounts h s) (v .families) 0) _ true child-next)
+
+        root-start : rootOf (panelOf s) (v .families) .start ≡ 0
+        root-start = enter-alike (panelOf s) (childOf 0 (record { source = getD (pathsAt (panelOf s) (v .families)) 0 0; cut = 0; reverse = false }) noSegment) .start
+
+        root-end : rootOf (panelOf s) (v .families) .end ≡ 0
+        root-end = enter-alike (panelOf s) (childOf 0 (record { source = getD (pathsAt (panelOf s) (v .families)) 0 0; cut = 0; reverse = false }) noSegment) .end
+
+-- ---- what the calls ask
+
+module _ (s : List ℕ) (h : Header) (b : SearchBudget) (family : Family) (start : ℕ) (xs₀ : List ℕ) (t₀ : Tally) (d₀ : ℕ) (xs : List ℕ) (t : Tally) (d : ℕ) (flag : Bool) (g : Going s h b family start xs₀ t₀ d₀ xs t d flag) where
+  pub frontier-room : (ys : List ℕ) → length ys ≡ length xs → (d + 1) * frameWidth ≤ length ys
+  frontier-room ys e = let r = g .held .room in let o = g .held .deep in omega arith
+
+  pub families-few : Accepted s h → t .families < 4096
+  families-few acc = let e = g .same in let l = g .groups .family in omega (arith, acc .counted .framed .fewFamilies)
+
+  pub root-room : frameWidth ≤ length xs
+  root-room = let r = g .held .room in omega arith
+
+  pub less-families : (v : Tally) → v ≡ doneOf t → family .number ≡ t₀ .families → h .families - v .families < h .families - t₀ .families
+  less-families v ev e = let q = g .same in let l = g .groups .family in rw ev (omega arith)
+
+pub evaluations-left : (b : SearchBudget) (t u : Tally) (k : ℕ) → u ≡ spentOf t k → t .evaluations < b .«max_evaluations» → u .evaluations < b .«max_evaluations»
+evaluations-left b t u k e l = rw e l

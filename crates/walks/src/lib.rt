@@ -1,0 +1,177 @@
+// The budgeted walk over all families (search.rs, search): it goes on until a budget stops it, all is walked, or an evaluation is due.
+ghost use mathlib.Core.Path.{_≡_};
+ghost use Prim.Native.Nat.{_≤_, _<_};
+ghost use lib.ListN.{length, take};
+ghost use Rattle.ground.specs.Lists.{sum};
+ghost use Rattle.image.specs.Image.{pathCounts};
+ghost use Rattle.image.specs.Inner.{Started};
+ghost use Rattle.image.specs.Panel.{panelOf};
+ghost use Rattle.panel.specs.Inner.{Accepted};
+ghost use Rattle.search.specs.Rooms.{frameWidth};
+ghost use Rattle.frames.specs.Inner.{put};
+ghost use Rattle.walks.specs.Inner.{rootOf, spentOf, handedOf, doneOf, Walking, Paused};
+use advance::Action;
+use evaluate::Segment;
+use frames::Stored;
+use search::SearchBudget;
+use search::Stop;
+use search::Tally;
+
+// Where a walk stands: its counters, its frames, where its family's paths begin, and whether the piece to the top's open hub is clear.
+pub struct Standing {
+    pub tally: Tally,
+    pub depth: usize,
+    pub start: usize,
+    pub clear: bool,
+}
+
+// Why a walk halts: it is stopped, or the route closed by this piece completes what is to be evaluated.
+pub enum Halt {
+    Stopped(Stop),
+    Due(Segment),
+}
+
+pub struct Pause {
+    pub halt: Halt,
+    pub at: Standing,
+}
+
+// The root of a family, entered.
+pub fn put_root(
+    image: &[u8],
+    h: image::Header,
+    starts: &[usize; 4096],
+    frames: &mut [u64],
+    number: usize,
+    start: usize,
+)
+    requires { ⌜ Accepted (now image) h × Started (now image) h (now starts) × (number < h .families) × (start ≡ sum (take number (pathCounts h (now image)))) × (frameWidth ≤ length (now frames)) ⌝ }
+    ensures { λ _. ⌜ now (frames .exit) ≡ put (now (frames .entry)) 0 (rootOf (panelOf (now (image .entry))) number) ⌝ }
+{
+    let family = image::family_from(image, h, number, start);
+    let lane = image::family_path(image, h, family, 0);
+    let f = advance::enter(
+        image,
+        h,
+        starts,
+        Stored {
+            slot: 0,
+            source: lane as u64,
+            cut: 0,
+            reverse: false,
+            terminal: true,
+            next: 0,
+            hub_next: 0,
+            hub_end: 0,
+            start: 0,
+            end: 0,
+        },
+    );
+    frames::put_frame(frames, 0, f);
+}
+
+// One unit more, and the members it took.
+fn spent(b: SearchBudget, t: Tally, taken: u64) -> Tally
+    requires { ⌜ (t .work < b .«max_work») × (t .donors ≤ t .work) × (taken ≤ 1) ⌝ }
+    ensures { λ r. ⌜ r ≡ spentOf t taken ⌝ }
+{
+    Tally {
+        work: t.work + 1,
+        donors: t.donors + taken,
+        ..t
+    }
+}
+
+// One evaluation more.
+fn handed(b: SearchBudget, t: Tally) -> Tally
+    requires { ⌜ t .evaluations < b .«max_evaluations» ⌝ }
+    ensures { λ r. ⌜ r ≡ handedOf t ⌝ }
+{
+    Tally {
+        evaluations: t.evaluations + 1,
+        ..t
+    }
+}
+
+// One family more.
+fn done_with(t: Tally) -> Tally
+    requires { ⌜ t .families < 4096 ⌝ }
+    ensures { λ r. ⌜ r ≡ doneOf t ⌝ }
+{
+    Tally {
+        families: t.families + 1,
+        ..t
+    }
+}
+
+// The walk goes on from where it stands.
+pub fn go_on(
+    image: &[u8],
+    h: image::Header,
+    starts: &[usize; 4096],
+    b: SearchBudget,
+    frames: &mut [u64],
+    from: Standing,
+) -> Pause
+    requires { ⌜ Accepted (now image) h × Started (now image) h (now starts) × Walking (now image) h b (now frames) (from .tally) (from .depth) (from .start) (from .clear) ⌝ }
+    ensures { λ r. ⌜ Paused (now (image .entry)) h b (now (frames .entry)) (now (frames .exit)) from r ⌝ }
+{
+    let mut t = from.tally;
+    let mut depth = from.depth;
+    let mut start = from.start;
+    let mut clear = from.clear;
+    let halt = 'families: loop {
+        let family = image::family_from(image, h, t.families as usize, start);
+        loop {
+            if depth == 0 {
+                break;
+            }
+            if t.work >= b.max_work {
+                break 'families Halt::Stopped(Stop::Work);
+            }
+            if t.evaluations >= b.max_evaluations {
+                break 'families Halt::Stopped(Stop::Evaluation);
+            }
+            let turn = advance::advance(image, h, starts, family, frames, depth - 1, clear);
+            t = spent(b, t, turn.taken);
+            clear = turn.clear;
+            let action = turn.action;
+            match action {
+                Action::Leave => {
+                    depth -= 1;
+                }
+                Action::Pass => {}
+                Action::Down(f) => {
+                    if depth as u64 >= b.max_frontier {
+                        frames::put_frame(frames, depth, f);
+                        break 'families Halt::Stopped(Stop::Frontier);
+                    }
+                    let e = advance::enter(image, h, starts, f);
+                    frames::put_frame(frames, depth, e);
+                    depth += 1;
+                }
+                Action::Give(s) => {
+                    t = handed(b, t);
+                    break 'families Halt::Due(s);
+                }
+            }
+        }
+        start = image::family_end(image, h, family);
+        t = done_with(t);
+        if t.families as usize >= h.families {
+            break 'families Halt::Stopped(Stop::Exhausted);
+        }
+        put_root(image, h, starts, frames, t.families as usize, start);
+        depth = 1;
+        clear = true;
+    };
+    Pause {
+        halt,
+        at: Standing {
+            tally: t,
+            depth,
+            start,
+            clear,
+        },
+    }
+}
