@@ -11,7 +11,7 @@ use mir.Syntax.{w64}
 use borrow.Author.Needs.{fits-under}
 use borrow.Author.Tests.{eq-eqb, ne-eqb, lt-ltb, le-ltb, ltb-true, ltb-false, leb-true}
 use lib.Dec.{leb, ltb, eqb}
-use lib.ListN.{length, getD}
+use lib.ListN.{length, getD, length-append}
 use Rattle.ground.specs.Lists.{pick, all, count, oneMoreIf, sum}
 use Rattle.ground.proofs.ListLaws.{both, all-at, split-length}
 use Rattle.storage.specs.Records.{cutAs, cutOf, noPort, sameTurn}
@@ -34,7 +34,7 @@ use Rattle.evaluate.specs.Segments.{clear}
 use Rattle.search.specs.Walk.{Place, Frame, Doing, pass, down, give, Act, leave, doing, firstPort, enter, begins, pieceTo, onPath, closes, closed, terminalTask, memberTask, samePlace, reach, switched, outgoing, behind, onward, hubOpen, nextPort, spent, opening, portUnit, hubUnit, unitOf, takesMember}
 use Rattle.search.specs.Rooms.{frameWidth}
 use Rattle.frames.specs.declared.Stored.{Stored}
-use Rattle.frames.specs.Inner.{Path, noPath, longer, pathTo, pathAt, pieces, placeWith, frameWith, storedAt, put, Alike}
+use Rattle.frames.specs.Inner.{Path, noPath, pieceFrom, longer, pathTo, pathAt, pieces, placeWith, frameWith, storedAt, put, Alike}
 use Rattle.frames.proofs.Laws.{path-pieces}
 use Rattle.landings.specs.declared.Landing.{Landing}
 use Rattle.landings.specs.Inner.{landingOf, sameLanding, reached}
@@ -109,6 +109,31 @@ next-slot n = ne-eqb n (n + 1) (λ e. omega arith)
 no-child-pass : (s : List ℕ) (h : Header) (n : ℕ) (c : Stored) → Pass ≡ Down c → Child s h n c
 no-child-pass s h n c e = let z : _≡_ {A = ℕ} 0 1 = cc in absurd (omega arith)
 
+-- how many routes are done is the slot, for a child too
+abbrev Slots : Stored → Stored → Type 0
+Slots f c = (a : Path) → length (a .routes) ≡ f .slot → length (pathTo a f c .routes) ≡ c .slot
+
+no-slots-pass : (f c : Stored) → Pass ≡ Down c → Slots f c
+no-slots-pass f c e = let z : _≡_ {A = ℕ} 0 1 = cc in absurd (omega arith)
+
+no-slots-leave : (f c : Stored) → Leave ≡ Down c → Slots f c
+no-slots-leave f c e = let z : _≡_ {A = ℕ} 0 1 = cc in absurd (omega arith)
+
+no-slots-give : (f : Stored) (t : Segment) (c : Stored) → Give t ≡ Down c → Slots f c
+no-slots-give f t c e = let z : _≡_ {A = ℕ} 0 1 = cc in absurd (omega arith)
+
+-- the next slot: a route more is done
+next-slots : (f c : Stored) → c .slot ≡ f .slot + 1 → Slots f c
+next-slots f c e a l =
+    let ne : eqb (f .slot) (c .slot) ≡ false = ne-eqb (f .slot) (c .slot) (λ q. omega arith) in
+    rw ne (length-append (a .routes) ((a .route ++ (pieceFrom f c ∷ [])) ∷ []) ∙ omega arith)
+
+-- the same slot
+same-slots : (f c : Stored) → c .slot ≡ f .slot → Slots f c
+same-slots f c e a l =
+    let eq : eqb (f .slot) (c .slot) ≡ true = eq-eqb (f .slot) (c .slot) (sym e) in
+    rw eq (l ∙ sym e)
+
 no-child-give : (s : List ℕ) (h : Header) (n : ℕ) (t : Segment) (c : Stored) → Give t ≡ Down c → Child s h n c
 no-child-give s h n t c e = let z : _≡_ {A = ℕ} 0 1 = cc in absurd (omega arith)
 
@@ -119,7 +144,7 @@ module _ (s : List ℕ) (h : Header) (family : Family) (f : Stored) (len : ℕ) 
   pub ends-give : f .slot + 1 ≡ family .count → Ends s h family f len (Give t)
   ends-give e =
       let m : suc (f .slot) ≡ family .count = omega arith in
-      record { task = λ a. rw (length-paths, eq-eqb (suc (f .slot)) (family .count) m, et); going = refl; child = no-child-give s h (family .count) t }
+      record { task = λ a. rw (length-paths, eq-eqb (suc (f .slot)) (family .count) m, et); going = refl; child = no-child-give s h (family .count) t; slots = no-slots-give f t }
 
   pub ends-down : (lane : ℕ) (c : Stored) → (f .slot + 1 ≡ family .count → ⊥) → lane ≡ getD (pathsOf h s (family .number)) (f .slot + 1) 0
       → c ≡ childOf (f .slot + 1) (record { source = lane; cut = 0; reverse = false }) t → Ends s h family f len (Down c)
@@ -131,8 +156,14 @@ module _ (s : List ℕ) (h : Header) (family : Family) (f : Stored) (len : ℕ) 
         task = λ a. rw (length-paths, ne-eqb (suc (f .slot)) (family .count) m, paths-are s h (family .number) (acc .counted .framed), ec, et, el, next-slot (f .slot), add-one);
         going = refl;
         child = λ d q. down-child d q named below;
+        slots = λ d q. next-slots f d (down-slot d q);
       }
     where
+      down-slot : (d : Stored) → Down c ≡ Down d → d .slot ≡ f .slot + 1
+      down-slot d q =
+          let same : d ≡ childOf (f .slot + 1) (record { source = lane; cut = 0; reverse = false }) t = cc in
+          ap (λ (x : Stored). x .slot) same
+
       down-child : (d : Stored) → Down c ≡ Down d → lane < h .lanes → f .slot + 1 < family .count → Child s h (family .count) d
       down-child d q named below =
           let same : d ≡ childOf (f .slot + 1) (record { source = lane; cut = 0; reverse = false }) t = cc in
@@ -220,6 +251,7 @@ module _ (s : List ℕ) (h : Header) (family : Family) (l : Lane) (xs : List ℕ
         alike = alike-moved f g (f .next) (f .«hub_next») (f .«hub_end») eg;
         sound = term-sound;
         child = no-child-pass s h (family .count);
+        slots = no-slots-pass f;
         flagged = term-shut;
         kept = λ c e. refl;
         left = λ e. refl;
@@ -233,6 +265,7 @@ module _ (s : List ℕ) (h : Header) (family : Family) (l : Lane) (xs : List ℕ
         alike = alike-moved f g (f .next) (f .«hub_next») (f .«hub_end») eg;
         sound = term-sound;
         child = e .child;
+        slots = e .slots;
         flagged = term-shut;
         kept = λ c q. refl;
         left = λ q. refl;
@@ -256,11 +289,11 @@ module _ (s : List ℕ) (h : Header) (family : Family) (l : Lane) (f : Stored) (
 
   pub meets-itself : b ≡ true → Meets s h family f flag Pass
   unfolding memberTask
-  meets-itself it = record { task = λ a q. rw (place-told, it); going = refl; child = no-child-pass s h (family .count); kept = pass-not-down flag }
+  meets-itself it = record { task = λ a q. rw (place-told, it); going = refl; child = no-child-pass s h (family .count); slots = no-slots-pass f; kept = pass-not-down flag }
 
   pub meets-blocked : b ≡ false → flag ≡ false → Meets s h family f flag Pass
   unfolding memberTask
-  meets-blocked not-so off = record { task = λ a q. rw (place-told, not-so, ← q, off); going = refl; child = no-child-pass s h (family .count); kept = pass-not-down flag }
+  meets-blocked not-so off = record { task = λ a q. rw (place-told, not-so, ← q, off); going = refl; child = no-child-pass s h (family .count); slots = no-slots-pass f; kept = pass-not-down flag }
 
   pub meets-down : (t : Segment) (c : Stored) → b ≡ false → flag ≡ true → t ≡ pieceTo (bare f) (out .cut) → c ≡ childOf (f .slot) to t → Meets s h family f flag (Down c)
   unfolding memberTask landingOf
@@ -274,9 +307,15 @@ module _ (s : List ℕ) (h : Header) (family : Family) (l : Lane) (f : Stored) (
             (place-told, not-so, ← q, it, ec, et, eto, eo, ei, panel-k s h (acc .counted .framed), panel-hub s h (acc .counted .framed), ports-here s h l f acc st here, eq-eqb (f .slot) (f .slot) refl);
         going = refl;
         child = λ d q. down-child d q (rw eto named);
+        slots = λ d q. same-slots f d (down-slot d q);
         kept = λ d q. it;
       }
     where
+      down-slot : (d : Stored) → Down c ≡ Down d → d .slot ≡ f .slot
+      down-slot d q =
+          let same : d ≡ childOf (f .slot) to t = cc in
+          ap (λ (x : Stored). x .slot) same
+
       down-child : (d : Stored) → Down c ≡ Down d → to .source < h .lanes → Child s h (family .count) d
       down-child d q named =
           let same : d ≡ childOf (f .slot) to t = cc in
@@ -305,6 +344,7 @@ module _ (s : List ℕ) (h : Header) (family : Family) (l : Lane) (xs : List ℕ
         alike = alike-moved f g (f .next) (f .«hub_next» + 1) (f .«hub_end») eg;
         sound = hub-sound (f .«hub_next» + 1) eg;
         child = m .child;
+        slots = m .slots;
         flagged = rw eg (record { told = λ o. knows .told is-open });
         kept = m .kept;
         left = stays-left r flag (m .going);
@@ -321,6 +361,7 @@ module _ (s : List ℕ) (h : Header) (family : Family) (l : Lane) (xs : List ℕ
         alike = alike-moved f g (f .next) 0 0 eg;
         sound = sound-of s h l f (on .accepted) (on .stands) (on .here) (family .count) g (f .next) 0 0 (on .sound) eg (omega arith) (omega arith) (λ z. absurd (omega arith)) (λ z. absurd (omega arith));
         child = no-child-pass s h (family .count);
+        slots = no-slots-pass f;
         flagged = rw eg (shut (panelOf s) (frameWith (pathAt xs top) (movedTo f (f .next) 0 0)) true refl);
         kept = λ c e. refl;
         left = λ e. refl;
@@ -372,6 +413,7 @@ module _ (s : List ℕ) (h : Header) (family : Family) (l : Lane) (xs : List ℕ
         alike = record { slot = refl; source = refl; reverse = refl; start = refl; end = refl };
         sound = on .sound;
         child = λ c z. (let y : _≡_ {A = ℕ} 0 1 = cc in absurd (omega arith));
+        slots = no-slots-leave f;
         flagged = shut (panelOf s) (frameWith (pathAt xs top) f) true none;
         kept = λ c z. refl;
         left = λ z. refl;
@@ -410,6 +452,7 @@ module _ (s : List ℕ) (h : Header) (family : Family) (l : Lane) (xs : List ℕ
           alike = alike-moved f g next 0 0 eg;
           sound = next-sound 0 0 eg (omega arith);
           child = no-child-pass s h (family .count);
+          slots = no-slots-pass f;
           flagged = rw eg (shut (panelOf s) (frameWith (pathAt xs top) (movedTo f next 0 0)) true refl);
           kept = λ c e. refl;
           left = λ e. refl;
@@ -438,6 +481,7 @@ module _ (s : List ℕ) (h : Header) (family : Family) (l : Lane) (xs : List ℕ
           alike = alike-moved f g next (m .lo) (m .hi) eg;
           sound = next-sound (m .lo) (m .hi) eg (most-members m em);
           child = no-child-pass s h (family .count);
+          slots = no-slots-pass f;
           flagged = rw eg (record { told = λ o. flag-opened t w et ew });
           kept = pass-not-down w;
           left = pass-not-left w;

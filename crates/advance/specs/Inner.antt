@@ -116,12 +116,14 @@ pub record Ends (s : List ℕ) (h : Header) (family : Family) (f : Stored) (len 
   pub task : (a : Path) → taskOf a f r ≡ closingTask (pathsAt (panelOf s) (family .number)) a f len
   pub going : stays r ≡ true
   pub child : (c : Stored) → r ≡ Down c → Child s h (family .count) c
+  pub slots : (c : Stored) → r ≡ Down c → (a : Path) → length (a .routes) ≡ f .slot → length (pathTo a f c .routes) ≡ c .slot
 
 pub record Meets (s : List ℕ) (h : Header) (family : Family) (f : Stored) (flag : Bool) (r : Action) : Type 0 where
   pub task : (a : Path) → flag ≡ clear (reach (panelOf s) (placeWith a f) (outgoing (panelOf s) (frameWith a f))) (onPath (placeWith a f))
       → taskOf a f r ≡ memberTask (panelOf s) (placeWith a f) (outgoing (panelOf s) (frameWith a f)) (getD (panelOf s .hub) (f .«hub_next») noPort)
   pub going : stays r ≡ true
   pub child : (c : Stored) → r ≡ Down c → Child s h (family .count) c
+  pub slots : (c : Stored) → r ≡ Down c → (a : Path) → length (a .routes) ≡ f .slot → length (pathTo a f c .routes) ≡ c .slot
   pub kept : (c : Stored) → r ≡ Down c → flag ≡ true
 
 -- ---- the unit
@@ -142,6 +144,7 @@ pub record Turned (s : List ℕ) (h : Header) (family : Family) (a : Path) (f : 
   pub alike : Alike (t .frame) f
   pub sound : Sound s h (family .count) (t .frame)
   pub child : (c : Stored) → t .action ≡ Down c → Child s h (family .count) c
+  pub slots : (c : Stored) → t .action ≡ Down c → (a : Path) → length (a .routes) ≡ f .slot → length (pathTo a f c .routes) ≡ c .slot
   pub flagged : Flagged (panelOf s) (frameWith a (t .frame)) (t .clear)
   pub kept : (c : Stored) → t .action ≡ Down c → t .clear ≡ true
   pub left : t .action ≡ Leave → t .clear ≡ true

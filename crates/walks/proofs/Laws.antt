@@ -192,6 +192,14 @@ module _ (s : List ℕ) (h : Header) (b : SearchBudget) (family : Family) (start
   flagged-then : Flagged (panelOf s) (frameOf ys (d - 1)) (turn .clear)
   flagged-then = rw top-frame (m .turned .flagged)
 
+  top-slots : length (pathAt xs (d - 1) .routes) ≡ storedAt xs (d - 1) .slot
+  unfolding frameOf
+  top-slots = g .held .slots (d - 1) (omega arith)
+
+  slots-then : (i : ℕ) → (i ≡ d - 1) ⊎ (i < d - 1) → length (frameOf ys i .place .routes) ≡ frameOf ys i .place .slot
+  slots-then i (inl e) = rw (e, top-frame) (top-slots ∙ sym (m .turned .alike .slot))
+  slots-then i (inr l) = rw (under i l) (g .held .slots i (omega arith))
+
   -- d frames as they were, the top as it is then
   held-then : Held s h b (family .count) ys u d (turn .clear)
   held-then =
@@ -200,6 +208,7 @@ module _ (s : List ℕ) (h : Header) (b : SearchBudget) (family : Family) (start
         small = g .held .small;
         room = room-then;
         sound = λ i l. sound-then i (eq-or-lt-of-le (omega arith));
+        slots = λ i l. slots-then i (eq-or-lt-of-le (omega arith));
         settled = λ i l. rw (under i (omega arith)) (g .held .settled i l);
         flagged = λ l. flagged-then;
         linked = linked-then;
@@ -241,6 +250,7 @@ module _ (s : List ℕ) (h : Header) (b : SearchBudget) (family : Family) (start
               small = g .held .small;
               room = room-then;
               sound = λ i l. sound-then i (inr l);
+              slots = λ i l. slots-then i (inr l);
               settled = λ i l. rw (under i (omega arith)) (g .held .settled i (omega arith));
               flagged = λ l. rw (under (d - 1 - 1) (omega arith), m .turned .left e) (g .held .settled (d - 1 - 1) (omega arith));
               linked = linked-less ys d (d - 1) linked-then (omega arith);
@@ -297,6 +307,10 @@ module _ (s : List ℕ) (h : Header) (b : SearchBudget) (family : Family) (start
       sound-down i (inl q) = rw (q, ez, stored-same ys d e here-room, ee) (enter-sound s h (family .count) c acc (m .turned .child c ea))
       sound-down i (inr l) = rw (ez, stored-below ys d i e l) (held-then .sound i l)
 
+      slots-down : (i : ℕ) → (i ≡ d) ⊎ (i < d) → length (frameOf zs i .place .routes) ≡ frameOf zs i .place .slot
+      slots-down i (inl q) = rw (q, top-down, path-down e alike-child) (m .turned .slots c ea (pathAt xs (d - 1)) top-slots ∙ sym (alike-child .slot))
+      slots-down i (inr l) = rw (under-down i l) (held-then .slots i l)
+
       settled-down : (i : ℕ) → (i ≡ d - 1) ⊎ (i < d - 1) → Flagged (panelOf s) (frameOf zs i) true
       settled-down i (inl q) = rw (q, under-down (d - 1) (omega arith)) (rw (m .turned .kept c ea) at flagged-then)
       settled-down i (inr l) = rw (under-down i (omega arith)) (held-then .settled i (omega arith))
@@ -319,6 +333,7 @@ module _ (s : List ℕ) (h : Header) (b : SearchBudget) (family : Family) (start
                   small = g .held .small;
                   room = let r = room-then in let q = length-put ys d e in rw ez (omega arith);
                   sound = λ i l. sound-down i (eq-or-lt-of-le (omega arith));
+                  slots = λ i l. slots-down i (eq-or-lt-of-le (omega arith));
                   settled = λ i l. settled-down i (eq-or-lt-of-le (omega arith));
                   flagged = λ l. child-flag;
                   linked = rw ez (rw back at (linked-push ys (d - 1) e down-room (rw (← back) at linked-then)));
@@ -423,6 +438,7 @@ module _ (s : List ℕ) (h : Header) (b : SearchBudget) (family : Family) (start
             small = k .small;
             room = k .room;
             sound = k .sound;
+            slots = k .slots;
             settled = k .settled;
             flagged = k .flagged;
             linked = k .linked;
@@ -552,6 +568,7 @@ module _ (s : List ℕ) (h : Header) (b : SearchBudget) (family : Family) (start
                       small = g .held .small;
                       room = let r = g .held .room in let e = length-put xs 0 (rootOf (panelOf s) (v .families)) in rw ew (omega arith);
                       sound = λ i l. sound-root i (omega arith);
+                      slots = λ i l. slots-root i (omega arith);
                       settled = λ i l. absurd (omega arith);
                       flagged = λ l. flag-root;
                       linked = rw ew (linked-root xs (rootOf (panelOf s) (v .families)) room-next root-start root-end);
@@ -568,6 +585,11 @@ module _ (s : List ℕ) (h : Header) (b : SearchBudget) (family : Family) (start
       where
         sound-root : (i : ℕ) → i ≡ 0 → Sound s h (getD (pathCounts h s) (v .families) 0) (storedAt ws i)
         sound-root i e = rw (e, ew, stored-same xs 0 (rootOf (panelOf s) (v .families)) room-next) (enter-sound s h (getD (pathCounts h s) (v .families) 0) _ acc child-next)
+
+        slots-root : (i : ℕ) → i ≡ 0 → length (frameOf ws i .place .routes) ≡ frameOf ws i .place .slot
+        slots-root i e =
+            rw (e, ew, frame-root xs (rootOf (panelOf s) (v .families)) room-next)
+            (sym (enter-alike (panelOf s) (childOf 0 (record { source = getD (pathsAt (panelOf s) (v .families)) 0 0; cut = 0; reverse = false }) noSegment) .slot))
 
         flag-root : Flagged (panelOf s) (frameOf ws (1 - 1)) true
         flag-root =

@@ -91,6 +91,7 @@ pub record Held (s : List ℕ) (h : Header) (b : SearchBudget) (n : ℕ) (xs : L
   pub small : b .«max_frontier» ≤ 1024
   pub room : (b .«max_frontier» + 1) * frameWidth ≤ length xs
   pub sound : (i : ℕ) → i < d → Sound s h n (storedAt xs i)
+  pub slots : (i : ℕ) → i < d → length (frameOf xs i .place .routes) ≡ frameOf xs i .place .slot
   pub settled : (i : ℕ) → i + 1 < d → Flagged (panelOf s) (frameOf xs i) true
   pub flagged : 0 < d → Flagged (panelOf s) (frameOf xs (d - 1)) flag
   pub linked : Linked xs d
