@@ -5,17 +5,25 @@ use mathlib.Core.Bool.{Bool, true, false}
 use mathlib.Core.List.{List, [], _∷_, _++_}
 use lib.ListN.{length, take, drop, getD}
 use lib.Ieee.{Float, nan}
-use Rattle.ground.specs.Lists.{oneMoreIf}
+use lib.Dec.{ltb}
+use lib.Ieee.Scale.{finite}
+use Rattle.ground.specs.Lists.{pick, oneMoreIf}
 use Rattle.image.specs.Panel.{Panel}
 use Rattle.evaluate.specs.declared.Refusal.{Refusal}
 use Rattle.evaluate.specs.Segments.{Assignment}
+use Rattle.evaluate.specs.Words.{encode}
+use Rattle.evaluate.specs.Check.{over}
 use Rattle.search.specs.declared.SearchBudget.{SearchBudget}
 use Rattle.search.specs.declared.Tally.{Tally}
 use Rattle.search.specs.Run.{Walk, Walked}
 use Rattle.search.specs.Counters.{switchesOf, hasSwitch, mixesLanes, mixesIdentities}
 use Rattle.search.specs.Keep.{Kept, Evaluated, scoreOf, sameEvaluated, keepOne, scoresRefusal}
 use Rattle.search.specs.Search.{State, Searched, searchedAs}
+use Rattle.kept.specs.Inner.{Recorded, Keeps, Left}
+use Rattle.marks.specs.declared.Marks.{Marks}
+use Rattle.marks.specs.Inner.{marksOf}
 use Rattle.searching.specs.declared.Counted.{Counted}
+use Rattle.searching.specs.declared.Account.{Account}
 
 -- ---- counters
 
@@ -79,3 +87,43 @@ keptWith b k e = keepOne scoreOf sameEvaluated (b .«max_optima») (b .«tie_wid
 -- a walk that has evaluated the natives of the first n families
 abbrev pub seedWalk : ℕ → Walk
 seedWalk n = record { work = n; evaluations = n; natives = n; donors = 0; families = 0; stack = []; out = [] }
+
+-- ---- one evaluation
+
+-- 14 or 15 of the evaluation after n others, or 0
+unfoldable pub scoreRefusal : List Float → ℕ → ℕ
+scoreRefusal xs n = pick (ltb n (length xs)) (pick (finite (getD xs n nan)) 0 15) 14
+
+-- counted by its marks
+abbrev pub markedWith : Counted → Marks → Counted
+markedWith c m =
+    record {
+      evaluations = c .evaluations + 1;
+      «non_native» = oneMoreIf (ltb 0 (m .switches)) (c .«non_native»);
+      mixed = oneMoreIf (m .lanes) (c .mixed);
+      «mixed_identity» = oneMoreIf (m .identities) (c .«mixed_identity»);
+      switches = max (c .switches) (m .switches);
+    }
+
+-- no counter is over the evaluations, and another evaluation can be counted
+pub record Few (c : Counted) : Type 0 where
+  pub small : c .evaluations < 0xffff_ffff_ffff_ffff
+  pub switched : c .«non_native» ≤ c .evaluations
+  pub lanes : c .mixed ≤ c .evaluations
+  pub identities : c .«mixed_identity» ≤ c .evaluations
+
+-- the slot begins with an assignment, whose marks these are
+pub record Marked (p : Panel) (a : Assignment) (xs ys : List ℕ) (r : Marks) : Type 0 where
+  pub room : ys ≡ over (encode a) xs
+  pub marks : r ≡ marksOf p a
+
+pub record Settled (b : SearchBudget) (v : ℕ) (m : Marks) (score : Float) (from : Account) (xs : List ℕ) (ss : List Float) (ys : List ℕ) (ts : List Float) (r : Account) : Type 0 where
+  pub recorded : Recorded v (b .«max_optima») (b .«tie_width») score (from .held) xs ss ys ts (r .held)
+  pub counted : r .counted ≡ markedWith (from .counted) m
+
+-- whatever the rooms held, they hold it with one more evaluation
+pub record Entered (p : Panel) (b : SearchBudget) (v : ℕ) (scores : List Float) (a : Assignment) (from : Account) (xs : List ℕ) (ss : List Float) (ys : List ℕ) (ts : List Float) (r : Account) : Type 0 where
+  pub keeps : (k : Kept Evaluated) → Keeps v (b .«max_optima») k (from .held) xs ss
+      → Keeps v (b .«max_optima») (keptWith b k (scoredBy scores (from .counted .evaluations) a)) (r .held) ys ts
+  pub left : (k : Kept Evaluated) → Keeps v (b .«max_optima») k (from .held) xs ss → Left v (b .«max_optima») xs ss ys ts
+  pub counted : r .counted ≡ countedWith p (from .counted) a
