@@ -1,3 +1,4 @@
 pub mod Rest
 pub mod Seeds
 pub mod Entering
+pub mod Running

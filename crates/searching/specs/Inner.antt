@@ -13,17 +13,22 @@ use Rattle.evaluate.specs.declared.Refusal.{Refusal}
 use Rattle.evaluate.specs.Segments.{Assignment}
 use Rattle.evaluate.specs.Words.{encode}
 use Rattle.evaluate.specs.Check.{over}
+use Rattle.evaluate.specs.Properties.{Each}
 use Rattle.search.specs.declared.SearchBudget.{SearchBudget}
 use Rattle.search.specs.declared.Tally.{Tally}
 use Rattle.search.specs.Run.{Walk, Walked}
 use Rattle.search.specs.Counters.{switchesOf, hasSwitch, mixesLanes, mixesIdentities}
 use Rattle.search.specs.Keep.{Kept, Evaluated, scoreOf, sameEvaluated, keepOne, scoresRefusal}
-use Rattle.search.specs.Search.{State, Searched, searchedAs}
+use Rattle.search.specs.Search.{State, Searched, searchedAs, search, evaluationRefusal, fresh}
+use Rattle.frames.specs.Inner.{frameOf, stackOf, Linked}
+use Rattle.walks.specs.Inner.{endingOf, usedBy}
+use Rattle.walks.specs.Inner.{Kept as Room}
 use Rattle.kept.specs.Inner.{Recorded, Keeps, Left}
 use Rattle.marks.specs.declared.Marks.{Marks}
 use Rattle.marks.specs.Inner.{marksOf}
 use Rattle.searching.specs.declared.Counted.{Counted}
 use Rattle.searching.specs.declared.Account.{Account}
+use Rattle.searching.specs.declared.Found.{Found}
 
 -- ---- counters
 
@@ -127,3 +132,35 @@ pub record Entered (p : Panel) (b : SearchBudget) (v : ℕ) (scores : List Float
       → Keeps v (b .«max_optima») (keptWith b k (scoredBy scores (from .counted .evaluations) a)) (r .held) ys ts
   pub left : (k : Kept Evaluated) → Keeps v (b .«max_optima») k (from .held) xs ss → Left v (b .«max_optima») xs ss ys ts
   pub counted : r .counted ≡ countedWith p (from .counted) a
+
+-- ---- under way
+
+abbrev pub Fitting : ℕ → Assignment → Type 0
+Fitting v a = length (encode a) ≤ v
+
+-- a search with this left of its walk comes to what the whole comes to
+pub record Onward (p : Panel) (b : SearchBudget) (v : ℕ) (xs : List Float) (r : Walked) (account : Account) (ks : List ℕ) (ss : List Float) : Type 0 where
+  pub kept : Kept Evaluated
+  pub keeps : Keeps v (b .«max_optima») kept (account .held) ks ss
+  pub same : outcomeOf p b xs (account .counted) kept r ≡ search p b xs
+  pub refused : refusalOf xs (account .counted .evaluations) r ≡ evaluationRefusal p b xs fresh
+  pub fits : Each (Fitting v) (r .walk .out)
+  pub listed : account .counted .evaluations ≤ length xs
+  pub switched : account .counted .«non_native» ≤ account .counted .evaluations
+  pub lanes : account .counted .mixed ≤ account .counted .evaluations
+  pub identities : account .counted .«mixed_identity» ≤ account .counted .evaluations
+
+-- a search that was not refused
+pub record Told (p : Panel) (b : SearchBudget) (v : ℕ) (xs : List Float) (frames ks : List ℕ) (ss : List Float) (r : Found) : Type 0 where
+  pub kept : Kept Evaluated
+  pub keeps : Keeps v (b .«max_optima») kept (r .account .held) ks ss
+  pub outcome : search p b xs
+      ≡ record { ending = endingOf (r .stop) (frameOf frames (r .at .depth) .place); state = record { tally = tallied (r .at .tally) (r .account .counted); stack = stackOf frames (r .at .depth); kept = kept } }
+  pub linked : Linked frames (usedBy (r .stop) (r .at .depth))
+  pub deep : r .at .depth ≤ b .«max_frontier»
+
+pub record Ended (p : Panel) (b : SearchBudget) (v : ℕ) (xs : List Float) (fs ks : List ℕ) (ss : List Float) (fs′ ks′ : List ℕ) (ss′ : List Float) (r : Found) : Type 0 where
+  pub refused : r .refusal ≡ evaluationRefusal p b xs fresh
+  pub told : r .refusal .number ≡ 0 → Told p b v xs fs′ ks′ ss′ r
+  pub left : Left v (b .«max_optima») ks ss ks′ ss′
+  pub frames : Room b fs fs′

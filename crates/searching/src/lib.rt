@@ -3,17 +3,19 @@ ghost use mathlib.Core.Path.{_≡_};
 ghost use Prim.Native.Nat.{_+_, _*_, _-_, _≤_, _<_, max};
 ghost use lib.ListN.{length};
 ghost use Rattle.ground.specs.Lists.{oneMoreIf};
-ghost use Rattle.image.specs.Inner.{Framed, Groups};
+ghost use Rattle.image.specs.Inner.{Framed, Groups, Started};
 ghost use Rattle.image.specs.Panel.{panelOf};
 ghost use Rattle.panel.specs.Inner.{Accepted};
 ghost use Rattle.evaluate.specs.Segments.{nativeOf};
 ghost use Rattle.evaluate.specs.Words.{encode};
 ghost use Rattle.search.specs.Rooms.{frameWidth};
 ghost use Rattle.kept.specs.Inner.{Tidy, Ready};
-ghost use Rattle.walks.specs.Inner.{assigned};
-ghost use Rattle.searching.specs.Inner.{scoreRefusal, markedWith, Few, Marked, Settled, Entered};
+ghost use Rattle.walks.specs.Inner.{assigned, toGo, Walking};
+ghost use Rattle.searching.specs.Inner.{scoreRefusal, markedWith, Few, Marked, Settled, Entered, Onward, Ended};
 use evaluate::Segment;
 use search::SearchBudget;
+use search::Stop;
+use walks::Halt;
 use walks::Standing;
 
 // What was evaluated so far, counted by its marks.
@@ -31,6 +33,14 @@ pub struct Account {
     pub held: kept::Holding,
 }
 
+// How a search ended: its refusal, or which budget stopped it, where its walk then stands, and its account.
+pub struct Found {
+    pub refusal: evaluate::Refusal,
+    pub stop: Stop,
+    pub at: Standing,
+    pub account: Account,
+}
+
 // ---- one evaluation
 
 // 14 where the evaluation after n others has no score, 15 where its score is not finite, or 0.
@@ -42,6 +52,14 @@ fn score_refusal(scores: &[f64], n: usize) -> u64
     } else {
         14
     }
+}
+
+// The evaluation's number, after n others that have scores.
+fn place_after(scores: &[f64], n: usize) -> u64
+    requires { ⌜ n ≤ length (now scores) ⌝ }
+    ensures { λ r. ⌜ r ≡ n + 1 ⌝ }
+{
+    n as u64 + 1
 }
 
 fn one_more_if(t: bool, n: u64) -> u64
@@ -180,4 +198,73 @@ fn enter_native(
     let a = (b.max_optima as usize + 1) * v;
     let m = mark_native(&mut kept[a..], image, h, family);
     settle(b, v, kept, kept_scores, m, score, from)
+}
+
+// ---- the search under way
+
+// The walk goes on from where it stands; each evaluation that is due is scored.
+fn run(
+    image: &[u8],
+    h: image::Header,
+    starts: &[usize; 4096],
+    b: SearchBudget,
+    v: usize,
+    scores: &[f64],
+    frames: &mut [u64],
+    kept: &mut [u64],
+    kept_scores: &mut [f64],
+    from: Standing,
+    first: Account,
+) -> Found
+    requires { ⌜ Accepted (now image) h × Started (now image) h (now starts) ⌝ }
+    requires { ⌜ Walking (now image) h b (now frames) (from .tally) (from .depth) (from .start) (from .clear) ⌝ }
+    requires { ⌜ Onward (panelOf (now image)) b v (now scores) (toGo (panelOf (now image)) b (from .tally) (now frames) (from .depth)) first (now kept) (now «kept_scores») ⌝ }
+    ensures { λ r. ⌜ Ended (panelOf (now (image .entry))) b v (now (scores .entry)) (now (frames .entry)) (now (kept .entry)) (now («kept_scores» .entry)) (now (frames .exit)) (now (kept .exit)) (now («kept_scores» .exit)) r ⌝ }
+{
+    let mut at = from;
+    let mut account = first;
+    loop {
+        let pause = walks::go_on(image, h, starts, b, frames, at);
+        at = pause.at;
+        let halt = pause.halt;
+        match halt {
+            Halt::Stopped(stop) => {
+                return Found {
+                    refusal: evaluate::Refusal {
+                        number: 0,
+                        place: 0,
+                    },
+                    stop,
+                    at,
+                    account,
+                };
+            }
+            Halt::Due(s) => {
+                let n = account.counted.evaluations;
+                let number = score_refusal(scores, n);
+                let place = place_after(scores, n);
+                if 0 < number {
+                    return Found {
+                        refusal: evaluate::Refusal { number, place },
+                        stop: Stop::Exhausted,
+                        at,
+                        account,
+                    };
+                }
+                account = enter_path(
+                    image,
+                    h,
+                    b,
+                    v,
+                    scores,
+                    frames,
+                    kept,
+                    kept_scores,
+                    at,
+                    s,
+                    account,
+                );
+            }
+        }
+    }
 }
