@@ -8,6 +8,8 @@ use lib.Ieee.{Float, nan}
 use lib.Dec.{ltb}
 use lib.Ieee.Scale.{finite}
 use Rattle.ground.specs.Lists.{pick, oneMoreIf}
+use mathlib.Core.Logic.{_⊎_}
+use Rattle.image.specs.declared.Header.{Header}
 use Rattle.image.specs.Panel.{Panel}
 use Rattle.evaluate.specs.declared.Refusal.{Refusal}
 use Rattle.evaluate.specs.Segments.{Assignment}
@@ -16,7 +18,7 @@ use Rattle.evaluate.specs.Check.{over}
 use Rattle.evaluate.specs.Properties.{Each}
 use Rattle.search.specs.declared.SearchBudget.{SearchBudget}
 use Rattle.search.specs.declared.Tally.{Tally}
-use Rattle.search.specs.Run.{Walk, Walked}
+use Rattle.search.specs.Run.{Walk, Walked, walkFrom}
 use Rattle.search.specs.Counters.{switchesOf, hasSwitch, mixesLanes, mixesIdentities}
 use Rattle.search.specs.Keep.{Kept, Evaluated, scoreOf, sameEvaluated, keepOne, scoresRefusal}
 use Rattle.search.specs.Search.{State, Searched, searchedAs, search, evaluationRefusal, fresh}
@@ -29,6 +31,7 @@ use Rattle.marks.specs.Inner.{marksOf}
 use Rattle.searching.specs.declared.Counted.{Counted}
 use Rattle.searching.specs.declared.Account.{Account}
 use Rattle.searching.specs.declared.Found.{Found}
+use Rattle.searching.specs.declared.Seeded.{Seeded}
 
 -- ---- counters
 
@@ -164,3 +167,12 @@ pub record Ended (p : Panel) (b : SearchBudget) (v : ℕ) (xs : List Float) (fs 
   pub told : r .refusal .number ≡ 0 → Told p b v xs fs′ ks′ ss′ r
   pub left : Left v (b .«max_optima») ks ss ks′ ss′
   pub frames : Room b fs fs′
+
+-- seeding ended: refused, or with so many natives evaluated, and no other is to come
+pub record Sown (p : Panel) (h : Header) (b : SearchBudget) (v : ℕ) (xs : List Float) (ks : List ℕ) (ss : List Float) (ks′ : List ℕ) (ss′ : List Float) (r : Seeded) : Type 0 where
+  pub refused : 0 < r .refusal .number → r .refusal ≡ evaluationRefusal p b xs fresh
+  pub onward : r .refusal .number ≡ 0 → Onward p b v xs (walkFrom p b (seedWalk (r .natives))) (r .account) ks′ ss′
+  pub few : r .natives ≤ h .families
+  pub over : r .refusal .number ≡ 0 → r .natives < h .families → r .natives < b .«max_evaluations» → b .«max_work» ≤ r .natives
+  pub worked : r .natives ≤ b .«max_work»
+  pub left : Left v (b .«max_optima») ks ss ks′ ss′

@@ -9,9 +9,10 @@ ghost use Rattle.panel.specs.Inner.{Accepted};
 ghost use Rattle.evaluate.specs.Segments.{nativeOf};
 ghost use Rattle.evaluate.specs.Words.{encode};
 ghost use Rattle.search.specs.Rooms.{frameWidth};
+ghost use Rattle.search.specs.Run.{walk};
 ghost use Rattle.kept.specs.Inner.{Tidy, Ready};
 ghost use Rattle.walks.specs.Inner.{assigned, toGo, Walking};
-ghost use Rattle.searching.specs.Inner.{scoreRefusal, markedWith, Few, Marked, Settled, Entered, Onward, Ended};
+ghost use Rattle.searching.specs.Inner.{scoreRefusal, markedWith, Few, Marked, Settled, Entered, Onward, Ended, Sown};
 use evaluate::Segment;
 use search::SearchBudget;
 use search::Stop;
@@ -38,6 +39,13 @@ pub struct Found {
     pub refusal: evaluate::Refusal,
     pub stop: Stop,
     pub at: Standing,
+    pub account: Account,
+}
+
+// Where seeding ended: its refusal, the natives evaluated, and the account.
+pub struct Seeded {
+    pub refusal: evaluate::Refusal,
+    pub natives: usize,
     pub account: Account,
 }
 
@@ -266,5 +274,63 @@ fn run(
                 );
             }
         }
+    }
+}
+
+// The natives, family by family, while work and evaluations are left.
+fn seed(
+    image: &[u8],
+    h: image::Header,
+    b: SearchBudget,
+    v: usize,
+    scores: &[f64],
+    kept: &mut [u64],
+    kept_scores: &mut [f64],
+    first: Account,
+) -> Seeded
+    requires { ⌜ Accepted (now image) h × Onward (panelOf (now image)) b v (now scores) (walk (panelOf (now image)) b) first (now kept) (now «kept_scores») ⌝ }
+    ensures { λ r. ⌜ Sown (panelOf (now (image .entry))) h b v (now (scores .entry)) (now (kept .entry)) (now («kept_scores» .entry)) (now (kept .exit)) (now («kept_scores» .exit)) r ⌝ }
+{
+    let mut natives: usize = 0;
+    let mut start: usize = 0;
+    let mut account = first;
+    let none = evaluate::Refusal {
+        number: 0,
+        place: 0,
+    };
+    while natives < h.families {
+        if natives as u64 >= b.max_work {
+            return Seeded {
+                refusal: none,
+                natives,
+                account,
+            };
+        }
+        if natives as u64 >= b.max_evaluations {
+            return Seeded {
+                refusal: none,
+                natives,
+                account,
+            };
+        }
+        let n = account.counted.evaluations;
+        let number = score_refusal(scores, n);
+        let place = place_after(scores, n);
+        if 0 < number {
+            return Seeded {
+                refusal: evaluate::Refusal { number, place },
+                natives,
+                account,
+            };
+        }
+        let family = image::family_from(image, h, natives, start);
+        account = enter_native(image, h, b, v, scores, kept, kept_scores, family, account);
+        start = image::family_end(image, h, family);
+        natives += 1;
+    }
+    Seeded {
+        refusal: none,
+        natives,
+        account,
     }
 }
