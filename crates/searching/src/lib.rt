@@ -1,0 +1,336 @@
+// The scored search (search.rs, search): the walk's evaluations with their scores, counted and kept.
+ghost use mathlib.Core.Path.{_≡_};
+ghost use Prim.Native.Nat.{_+_, _*_, _-_, _≤_, _<_, max};
+ghost use lib.ListN.{length};
+ghost use Rattle.ground.specs.Lists.{oneMoreIf};
+ghost use Rattle.image.specs.Inner.{Framed, Groups, Started};
+ghost use Rattle.image.specs.Panel.{panelOf};
+ghost use Rattle.panel.specs.Inner.{Accepted};
+ghost use Rattle.evaluate.specs.Segments.{nativeOf};
+ghost use Rattle.evaluate.specs.Words.{encode};
+ghost use Rattle.search.specs.Rooms.{frameWidth};
+ghost use Rattle.search.specs.Run.{walk};
+ghost use Rattle.kept.specs.Inner.{Tidy, Ready};
+ghost use Rattle.walks.specs.Inner.{assigned, toGo, Walking};
+ghost use Rattle.searching.specs.Inner.{scoreRefusal, markedWith, Few, Marked, Settled, Entered, Onward, Ended, Sown};
+use evaluate::Segment;
+use search::SearchBudget;
+use search::Stop;
+use walks::Halt;
+use walks::Standing;
+
+// What was evaluated so far, counted by its marks.
+pub struct Counted {
+    pub evaluations: usize,
+    pub non_native: u64,
+    pub mixed: u64,
+    pub mixed_identity: u64,
+    pub switches: u64,
+}
+
+// What a search has counted, and what its kept rooms hold.
+pub struct Account {
+    pub counted: Counted,
+    pub held: kept::Holding,
+}
+
+// How a search ended: its refusal, or which budget stopped it, where its walk then stands, and its account.
+pub struct Found {
+    pub refusal: evaluate::Refusal,
+    pub stop: Stop,
+    pub at: Standing,
+    pub account: Account,
+}
+
+// Where seeding ended: its refusal, the natives evaluated, and the account.
+pub struct Seeded {
+    pub refusal: evaluate::Refusal,
+    pub natives: usize,
+    pub account: Account,
+}
+
+// ---- one evaluation
+
+// 14 where the evaluation after n others has no score, 15 where its score is not finite, or 0.
+fn score_refusal(scores: &[f64], n: usize) -> u64
+    ensures { λ r. ⌜ r ≡ scoreRefusal (now (scores .entry)) n ⌝ }
+{
+    if n < scores.len() {
+        if budget::is_finite(scores[n]) { 0 } else { 15 }
+    } else {
+        14
+    }
+}
+
+// The evaluation's number, after n others that have scores.
+fn place_after(scores: &[f64], n: usize) -> u64
+    requires { ⌜ n ≤ length (now scores) ⌝ }
+    ensures { λ r. ⌜ r ≡ n + 1 ⌝ }
+{
+    n as u64 + 1
+}
+
+fn one_more_if(t: bool, n: u64) -> u64
+    requires { ⌜ n < 0xffff_ffff_ffff_ffff ⌝ }
+    ensures { λ r. ⌜ r ≡ oneMoreIf t n ⌝ }
+{
+    if t { n + 1 } else { n }
+}
+
+fn larger(a: u64, b: u64) -> u64
+    ensures { λ r. ⌜ r ≡ max a b ⌝ }
+{
+    if a < b { b } else { a }
+}
+
+// One evaluation more, with these marks.
+fn counted_with(c: Counted, m: marks::Marks) -> Counted
+    requires { ⌜ Few c ⌝ }
+    ensures { λ r. ⌜ r ≡ markedWith c m ⌝ }
+{
+    Counted {
+        evaluations: c.evaluations + 1,
+        non_native: one_more_if(0 < m.switches, c.non_native),
+        mixed: one_more_if(m.lanes, c.mixed),
+        mixed_identity: one_more_if(m.identities, c.mixed_identity),
+        switches: larger(c.switches, m.switches),
+    }
+}
+
+// The assignment in the spare is recorded with its score and its marks.
+fn settle(
+    b: SearchBudget,
+    v: usize,
+    kept: &mut [u64],
+    kept_scores: &mut [f64],
+    m: marks::Marks,
+    score: f64,
+    from: Account,
+) -> Account
+    requires { ⌜ Tidy v (b .«max_optima») (from .held) (now kept) (now «kept_scores») × Few (from .counted) ⌝ }
+    ensures { λ r. ⌜ Settled b v m score from (now (kept .entry)) (now («kept_scores» .entry)) (now (kept .exit)) (now («kept_scores» .exit)) r ⌝ }
+{
+    let optima = b.max_optima as usize;
+    let width = b.tie_width;
+    let held = kept::offer(kept, kept_scores, from.held, score, width, optima, v);
+    let counted = counted_with(from.counted, m);
+    Account { counted, held }
+}
+
+// ---- the words of what is evaluated
+
+// The assignment that the path to frame top and a closing piece complete, into a slot; its marks.
+fn mark_path(
+    slot: &mut [u64],
+    image: &[u8],
+    h: image::Header,
+    frames: &[u64],
+    top: usize,
+    family: u64,
+    s: Segment,
+) -> marks::Marks
+    requires { ⌜ Framed (now image) h × ((top + 1) * frameWidth ≤ length (now frames)) × (length (encode (assigned family (now frames) top s)) ≤ length (now slot)) ⌝ }
+    ensures { λ r. ⌜ Marked (panelOf (now (image .entry))) (assigned family (now (frames .entry)) top s) (now (slot .entry)) (now (slot .exit)) r ⌝ }
+{
+    let n = writer::put_path(slot, frames, top, family, s);
+    marks::marks_of(image, h, &slot[0..n])
+}
+
+// A family's native assignment, into a slot; its marks.
+fn mark_native(
+    slot: &mut [u64],
+    image: &[u8],
+    h: image::Header,
+    family: image::Family,
+) -> marks::Marks
+    requires { ⌜ Accepted (now image) h × Groups (now image) h family × (length (encode (nativeOf (panelOf (now image)) (family .number))) ≤ length (now slot)) ⌝ }
+    ensures { λ r. ⌜ Marked (panelOf (now (image .entry))) (nativeOf (panelOf (now (image .entry))) (family .number)) (now (slot .entry)) (now (slot .exit)) r ⌝ }
+{
+    let n = writer::put_native(slot, image, h, family);
+    marks::marks_of(image, h, &slot[0..n])
+}
+
+// An evaluation of the walk: its words go into the spare.
+fn enter_path(
+    image: &[u8],
+    h: image::Header,
+    b: SearchBudget,
+    v: usize,
+    scores: &[f64],
+    frames: &[u64],
+    kept: &mut [u64],
+    kept_scores: &mut [f64],
+    at: Standing,
+    s: Segment,
+    from: Account,
+) -> Account
+    requires { ⌜ Framed (now image) h × Few (from .counted) × (from .counted .evaluations < length (now scores)) ⌝ }
+    requires { ⌜ Ready v (b .«max_optima») (from .held) (now kept) (now «kept_scores») ⌝ }
+    requires { ⌜ (0 < at .depth) × (at .depth * frameWidth ≤ length (now frames)) × (length (encode (assigned (at .tally .families) (now frames) (at .depth - 1) s)) ≤ v) ⌝ }
+    ensures { λ r. ⌜ Entered (panelOf (now (image .entry))) b v (now (scores .entry)) (assigned (at .tally .families) (now (frames .entry)) (at .depth - 1) s) from (now (kept .entry)) (now («kept_scores» .entry)) (now (kept .exit)) (now («kept_scores» .exit)) r ⌝ }
+{
+    let n = from.counted.evaluations;
+    let score = scores[n];
+    let a = (b.max_optima as usize + 1) * v;
+    let m = mark_path(
+        &mut kept[a..],
+        image,
+        h,
+        frames,
+        at.depth - 1,
+        at.tally.families,
+        s,
+    );
+    settle(b, v, kept, kept_scores, m, score, from)
+}
+
+// An evaluation of seeding.
+fn enter_native(
+    image: &[u8],
+    h: image::Header,
+    b: SearchBudget,
+    v: usize,
+    scores: &[f64],
+    kept: &mut [u64],
+    kept_scores: &mut [f64],
+    family: image::Family,
+    from: Account,
+) -> Account
+    requires { ⌜ Accepted (now image) h × Few (from .counted) × (from .counted .evaluations < length (now scores)) ⌝ }
+    requires { ⌜ Ready v (b .«max_optima») (from .held) (now kept) (now «kept_scores») ⌝ }
+    requires { ⌜ Groups (now image) h family × (length (encode (nativeOf (panelOf (now image)) (family .number))) ≤ v) ⌝ }
+    ensures { λ r. ⌜ Entered (panelOf (now (image .entry))) b v (now (scores .entry)) (nativeOf (panelOf (now (image .entry))) (family .number)) from (now (kept .entry)) (now («kept_scores» .entry)) (now (kept .exit)) (now («kept_scores» .exit)) r ⌝ }
+{
+    let n = from.counted.evaluations;
+    let score = scores[n];
+    let a = (b.max_optima as usize + 1) * v;
+    let m = mark_native(&mut kept[a..], image, h, family);
+    settle(b, v, kept, kept_scores, m, score, from)
+}
+
+// ---- the search under way
+
+// The walk goes on from where it stands; each evaluation that is due is scored.
+fn run(
+    image: &[u8],
+    h: image::Header,
+    starts: &[usize; 4096],
+    b: SearchBudget,
+    v: usize,
+    scores: &[f64],
+    frames: &mut [u64],
+    kept: &mut [u64],
+    kept_scores: &mut [f64],
+    from: Standing,
+    first: Account,
+) -> Found
+    requires { ⌜ Accepted (now image) h × Started (now image) h (now starts) ⌝ }
+    requires { ⌜ Walking (now image) h b (now frames) (from .tally) (from .depth) (from .start) (from .clear) ⌝ }
+    requires { ⌜ Onward (panelOf (now image)) b v (now scores) (toGo (panelOf (now image)) b (from .tally) (now frames) (from .depth)) first (now kept) (now «kept_scores») ⌝ }
+    ensures { λ r. ⌜ Ended (panelOf (now (image .entry))) b v (now (scores .entry)) (now (frames .entry)) (now (kept .entry)) (now («kept_scores» .entry)) (now (frames .exit)) (now (kept .exit)) (now («kept_scores» .exit)) r ⌝ }
+{
+    let mut at = from;
+    let mut account = first;
+    loop {
+        let pause = walks::go_on(image, h, starts, b, frames, at);
+        at = pause.at;
+        let halt = pause.halt;
+        match halt {
+            Halt::Stopped(stop) => {
+                return Found {
+                    refusal: evaluate::Refusal {
+                        number: 0,
+                        place: 0,
+                    },
+                    stop,
+                    at,
+                    account,
+                };
+            }
+            Halt::Due(s) => {
+                let n = account.counted.evaluations;
+                let number = score_refusal(scores, n);
+                let place = place_after(scores, n);
+                if 0 < number {
+                    return Found {
+                        refusal: evaluate::Refusal { number, place },
+                        stop: Stop::Exhausted,
+                        at,
+                        account,
+                    };
+                }
+                account = enter_path(
+                    image,
+                    h,
+                    b,
+                    v,
+                    scores,
+                    frames,
+                    kept,
+                    kept_scores,
+                    at,
+                    s,
+                    account,
+                );
+            }
+        }
+    }
+}
+
+// The natives, family by family, while work and evaluations are left.
+fn seed(
+    image: &[u8],
+    h: image::Header,
+    b: SearchBudget,
+    v: usize,
+    scores: &[f64],
+    kept: &mut [u64],
+    kept_scores: &mut [f64],
+    first: Account,
+) -> Seeded
+    requires { ⌜ Accepted (now image) h × Onward (panelOf (now image)) b v (now scores) (walk (panelOf (now image)) b) first (now kept) (now «kept_scores») ⌝ }
+    ensures { λ r. ⌜ Sown (panelOf (now (image .entry))) h b v (now (scores .entry)) (now (kept .entry)) (now («kept_scores» .entry)) (now (kept .exit)) (now («kept_scores» .exit)) r ⌝ }
+{
+    let mut natives: usize = 0;
+    let mut start: usize = 0;
+    let mut account = first;
+    let none = evaluate::Refusal {
+        number: 0,
+        place: 0,
+    };
+    while natives < h.families {
+        if natives as u64 >= b.max_work {
+            return Seeded {
+                refusal: none,
+                natives,
+                account,
+            };
+        }
+        if natives as u64 >= b.max_evaluations {
+            return Seeded {
+                refusal: none,
+                natives,
+                account,
+            };
+        }
+        let n = account.counted.evaluations;
+        let number = score_refusal(scores, n);
+        let place = place_after(scores, n);
+        if 0 < number {
+            return Seeded {
+                refusal: evaluate::Refusal { number, place },
+                natives,
+                account,
+            };
+        }
+        let family = image::family_from(image, h, natives, start);
+        account = enter_native(image, h, b, v, scores, kept, kept_scores, family, account);
+        start = image::family_end(image, h, family);
+        natives += 1;
+    }
+    Seeded {
+        refusal: none,
+        natives,
+        account,
+    }
+}
