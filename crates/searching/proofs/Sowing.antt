@@ -2,6 +2,7 @@
 use Prim.Native.Nat.{ℕ, zero, suc, _+_, _-_, _*_, _≤_, _<_}
 use native.Mathlib.Omega.{arith}
 use mathlib.Core.Path.{_≡_, refl, sym, ap, subst, _∙_}
+use mathlib.Core.Bool.{Bool}
 use mathlib.Core.List.{List}
 use lib.ListN.{length, take}
 use lib.Ieee.{Float}
@@ -20,10 +21,15 @@ use Rattle.search.specs.Run.{Walk, Walked, walkFrom, walk}
 use Rattle.search.specs.Search.{evaluationRefusal, fresh}
 use Rattle.kept.specs.Inner.{Ready, Left}
 use Rattle.kept.proofs.Rooms.{left-none, left-on}
-use Rattle.walks.specs.Inner.{before}
+use Rattle.search.specs.declared.Tally.{Tally}
+use Rattle.search.specs.declared.Stop.{Stop}
+use Rattle.search.specs.declared.Stop.the-variants.{Exhausted, Work, Evaluation}
+use Rattle.frames.specs.Inner.{frameOf, stackOf, Linked}
+use Rattle.walks.specs.Inner.{before, walkOf, endingOf, usedBy}
 use Rattle.searching.specs.declared.Account.{Account}
 use Rattle.searching.specs.declared.Seeded.{Seeded}
-use Rattle.searching.specs.Inner.{scoreRefusal, seedWalk, Few, Entered, Onward, Sown}
+use Rattle.searching.specs.Inner.{scoreRefusal, seedWalk, Few, Entered, Onward, Ended, Sown, outcomeOf, refusalOf}
+use Rattle.searching.proofs.Rest.{outcome-end, refusal-end}
 use Rattle.searching.proofs.Seeds.{seed-one}
 use Rattle.searching.proofs.Running.{score-listed, onward-refused, onward-one}
 
@@ -91,3 +97,27 @@ module _ {s : List ℕ} {h : Header} {b : SearchBudget} {v : ℕ} {xs : List Flo
           worked = omega arith;
           begins = d ∙ ap (λ (m : ℕ). sum (take (m + 1) (pathCounts h s))) q;
         }
+
+-- ---- a search that ends with its seeding: no frame is on the stack
+
+none-linked : (fs : List ℕ) → Linked fs 0
+none-linked fs = record { turned = λ i l. absurd (omega arith); waiting = λ i l. absurd (omega arith); rootStart = λ l. absurd (omega arith); rootEnd = λ l. absurd (omega arith) }
+
+pub sown-ended : {p : Panel} {h : Header} {b : SearchBudget} {v : ℕ} {xs : List Float} {ks : List ℕ} {ss : List Float} {ks′ : List ℕ} {ss′ : List Float} {r : Seeded} (fs : List ℕ) (e : Stop) (t : Tally) (start : ℕ) (clear : Bool)
+    → Sown p h b v xs ks ss ks′ ss′ r → r .refusal .number ≡ 0 → usedBy e 0 ≡ 0 → walkFrom p b (seedWalk (r .natives)) ≡ record { ending = endingOf e (frameOf fs 0 .place); walk = walkOf t (stackOf fs 0) }
+    → Ended p b v xs fs ks ss fs ks′ ss′ (record { refusal = record { number = 0; place = 0 }; stop = e; at = record { tally = t; depth = 0; start = start; clear = clear }; account = r .account })
+sown-ended {p} {h} {b} {v} {xs} {ks} {ss} {ks′} {ss′} {r} fs e t start clear w z f q =
+    let o = w .onward z in
+    record {
+      refused = sym (refusal-end p b xs (r .account .counted) (o .kept) (endingOf e (frameOf fs 0 .place)) t (stackOf fs 0)) ∙ ap (refusalOf xs (r .account .counted .evaluations)) (sym q) ∙ o .refused;
+      told = λ y.
+          record {
+            kept = o .kept;
+            keeps = o .keeps;
+            outcome = sym (o .same) ∙ ap (outcomeOf p b xs (r .account .counted) (o .kept)) q ∙ outcome-end p b xs (r .account .counted) (o .kept) (endingOf e (frameOf fs 0 .place)) t (stackOf fs 0);
+            linked = rw f (none-linked fs);
+            deep = omega arith;
+          };
+      left = w .left;
+      frames = record { long = refl; rest = refl };
+    }

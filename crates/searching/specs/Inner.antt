@@ -18,6 +18,8 @@ use Rattle.evaluate.specs.Check.{over}
 use Rattle.evaluate.specs.Properties.{Each}
 use Rattle.search.specs.declared.SearchBudget.{SearchBudget}
 use Rattle.search.specs.declared.Tally.{Tally}
+use Rattle.search.specs.declared.Stop.{Stop}
+use Rattle.search.specs.declared.Stop.the-variants.{Exhausted, Work, Evaluation, Frontier}
 use Rattle.search.specs.Run.{Walk, Walked, walkFrom}
 use Rattle.search.specs.Counters.{switchesOf, hasSwitch, mixesLanes, mixesIdentities}
 use Rattle.search.specs.Keep.{Kept, Evaluated, scoreOf, sameEvaluated, keepOne, scoresRefusal}
@@ -176,3 +178,11 @@ pub record Sown (p : Panel) (h : Header) (b : SearchBudget) (v : ℕ) (xs : List
   pub over : r .refusal .number ≡ 0 → r .natives < h .families → r .natives < b .«max_evaluations» → b .«max_work» ≤ r .natives
   pub worked : r .natives ≤ b .«max_work»
   pub left : Left v (b .«max_optima») ks ss ks′ ss′
+
+-- ---- the answer
+
+abbrev pub pendingAt : Stop → Bool
+pendingAt Exhausted = false
+pendingAt Work = false
+pendingAt Evaluation = false
+pendingAt Frontier = true
