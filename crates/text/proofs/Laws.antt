@@ -119,11 +119,14 @@ pub counting-ends : {x i rest : ℕ} {ds : List ℕ} → Counting x i rest ds �
 unfolding digits
 counting-ends {x} {i} {rest} {ds} c h = let z : i ≡ 0 = omega arith in record { said = rw (c .said, z); long = c .long }
 
--- ---- lines
-
-pub field-put : (name : List ℕ) (x : ℕ) {xs ys zs : List ℕ} {at n m : ℕ} → Put (name ++ (32 ∷ [])) xs at ys n → Put (decimal x ++ (10 ∷ [])) ys n zs m → Put (field name x) xs at zs m
-field-put name x {xs} {ys} {zs} {at} {n} {m} p q =
-    subst (λ (l : List ℕ). Put l xs at zs m) (append-assoc name (32 ∷ []) (decimal x ++ (10 ∷ []))) (put-then (name ++ (32 ∷ [])) (decimal x ++ (10 ∷ [])) p q)
-
 pub number-put : {ds xs ys : List ℕ} {at n x from : ℕ} → Digits x ds from → Put (drop from ds) xs at ys n → Put (decimal x) xs at ys n
 number-put {ds} {xs} {ys} {at} {n} {x} {from} e p = subst (λ (l : List ℕ). Put l xs at ys n) (e .said) p
+
+-- ---- lines
+
+-- a word and the byte behind it, and what follows them
+pub word-then : (w rest : List ℕ) (b : ℕ) {xs ys zs : List ℕ} {at n m : ℕ} → Put (w ++ (b ∷ [])) xs at ys n → Put rest ys n zs m → Put (w ++ (b ∷ rest)) xs at zs m
+word-then w rest b {xs} {ys} {zs} {at} {n} {m} p q = subst (λ (l : List ℕ). Put l xs at zs m) (append-assoc w (b ∷ []) rest) (put-then (w ++ (b ∷ [])) rest p q)
+
+pub field-put : (name : List ℕ) (x : ℕ) {xs ys zs : List ℕ} {at n m : ℕ} → Put (name ++ (32 ∷ [])) xs at ys n → Put (decimal x ++ (10 ∷ [])) ys n zs m → Put (field name x) xs at zs m
+field-put name x p q = word-then name (decimal x ++ (10 ∷ [])) 32 p q
