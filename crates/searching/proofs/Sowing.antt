@@ -3,7 +3,7 @@ use Prim.Native.Nat.{ℕ, zero, suc, _+_, _-_, _*_, _≤_, _<_}
 use native.Mathlib.Omega.{arith}
 use mathlib.Core.Path.{_≡_, refl, sym, ap, subst, _∙_}
 use mathlib.Core.Bool.{Bool}
-use mathlib.Core.List.{List}
+use mathlib.Core.List.{List, [], _++_}
 use lib.ListN.{length, take}
 use lib.Ieee.{Float}
 use Rattle.ground.specs.Lists.{sum}
@@ -24,13 +24,15 @@ use Rattle.kept.proofs.Rooms.{left-none, left-on}
 use Rattle.search.specs.declared.Tally.{Tally}
 use Rattle.search.specs.declared.Stop.{Stop}
 use Rattle.search.specs.declared.Stop.the-variants.{Exhausted, Work, Evaluation}
-use Rattle.frames.specs.Inner.{frameOf, stackOf, Linked}
-use Rattle.walks.specs.Inner.{before, walkOf, endingOf, usedBy}
+use Rattle.search.specs.Rooms.{stackWords, pendingWords}
+use Rattle.frames.specs.Inner.{frameOf, stackOf}
+use Rattle.frames.proofs.Laws.{stack-none}
+use Rattle.walks.specs.Inner.{before, walkOf, endingOf, usedBy, seedWalk}
 use Rattle.searching.specs.declared.Account.{Account}
 use Rattle.searching.specs.declared.Seeded.{Seeded}
-use Rattle.searching.specs.Inner.{scoreRefusal, seedWalk, Few, Entered, Onward, Ended, Sown, outcomeOf, refusalOf}
+use Rattle.searching.specs.Inner.{scoreRefusal, Few, Entered, Onward, Ended, Sown, outcomeOf, refusalOf}
 use Rattle.searching.proofs.Rest.{outcome-end, refusal-end}
-use Rattle.searching.proofs.Seeds.{seed-one}
+use Rattle.walks.proofs.Seeds.{seed-one}
 use Rattle.searching.proofs.Running.{score-listed, onward-refused, onward-one}
 
 pub record Sowing (s : List ℕ) (h : Header) (b : SearchBudget) (v : ℕ) (xs : List Float) (ks : List ℕ) (ss : List Float) (ks′ : List ℕ) (ss′ : List Float) (n start : ℕ) (account : Account) : Type 0 where
@@ -100,13 +102,11 @@ module _ {s : List ℕ} {h : Header} {b : SearchBudget} {v : ℕ} {xs : List Flo
 
 -- ---- a search that ends with its seeding: no frame is on the stack
 
-none-linked : (fs : List ℕ) → Linked fs 0
-none-linked fs = record { turned = λ i l. absurd (omega arith); waiting = λ i l. absurd (omega arith); rootStart = λ l. absurd (omega arith); rootEnd = λ l. absurd (omega arith) }
-
 pub sown-ended : {p : Panel} {h : Header} {b : SearchBudget} {v : ℕ} {xs : List Float} {ks : List ℕ} {ss : List Float} {ks′ : List ℕ} {ss′ : List Float} {r : Seeded} (fs : List ℕ) (e : Stop) (t : Tally) (start : ℕ) (clear : Bool)
-    → Sown p h b v xs ks ss ks′ ss′ r → r .refusal .number ≡ 0 → usedBy e 0 ≡ 0 → walkFrom p b (seedWalk (r .natives)) ≡ record { ending = endingOf e (frameOf fs 0 .place); walk = walkOf t (stackOf fs 0) }
+    → Sown p h b v xs ks ss ks′ ss′ r → r .refusal .number ≡ 0 → usedBy e 0 ≡ 0 → pendingWords (endingOf e (frameOf fs 0 .place)) ≡ [] → walkFrom p b (seedWalk (r .natives)) ≡ record { ending = endingOf e (frameOf fs 0 .place); walk = walkOf t (stackOf fs 0) }
     → Ended p b v xs fs ks ss fs ks′ ss′ (record { refusal = record { number = 0; place = 0 }; stop = e; at = record { tally = t; depth = 0; start = start; clear = clear }; account = r .account })
-sown-ended {p} {h} {b} {v} {xs} {ks} {ss} {ks′} {ss′} {r} fs e t start clear w z f q =
+unfolding stackWords
+sown-ended {p} {h} {b} {v} {xs} {ks} {ss} {ks′} {ss′} {r} fs e t start clear w z f none q =
     let o = w .onward z in
     record {
       refused = sym (refusal-end p b xs (r .account .counted) (o .kept) (endingOf e (frameOf fs 0 .place)) t (stackOf fs 0)) ∙ ap (refusalOf xs (r .account .counted .evaluations)) (sym q) ∙ o .refused;
@@ -115,9 +115,12 @@ sown-ended {p} {h} {b} {v} {xs} {ks} {ss} {ks′} {ss′} {r} fs e t start clear
             kept = o .kept;
             keeps = o .keeps;
             outcome = sym (o .same) ∙ ap (outcomeOf p b xs (r .account .counted) (o .kept)) q ∙ outcome-end p b xs (r .account .counted) (o .kept) (endingOf e (frameOf fs 0 .place)) t (stackOf fs 0);
-            linked = rw f (none-linked fs);
+            words = rw (f, none, stack-none fs) none-words;
             deep = omega arith;
           };
       left = w .left;
       frames = record { long = refl; rest = refl };
     }
+  where
+    none-words : _≡_ {A = List ℕ} [] (stackWords [] ++ [])
+    none-words = refl

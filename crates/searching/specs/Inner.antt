@@ -24,8 +24,9 @@ use Rattle.search.specs.Run.{Walk, Walked, walkFrom}
 use Rattle.search.specs.Counters.{switchesOf, hasSwitch, mixesLanes, mixesIdentities}
 use Rattle.search.specs.Keep.{Kept, Evaluated, scoreOf, sameEvaluated, keepOne, scoresRefusal}
 use Rattle.search.specs.Search.{State, Searched, searchedAs, search, evaluationRefusal, fresh}
-use Rattle.frames.specs.Inner.{frameOf, stackOf, Linked}
-use Rattle.walks.specs.Inner.{endingOf, usedBy}
+use Rattle.search.specs.Rooms.{frameWidth, stackWords, pendingWords}
+use Rattle.frames.specs.Inner.{frameOf, stackOf}
+use Rattle.walks.specs.Inner.{endingOf, usedBy, seedWalk}
 use Rattle.walks.specs.Inner.{Kept as Room}
 use Rattle.kept.specs.Inner.{Recorded, Keeps, Left}
 use Rattle.marks.specs.declared.Marks.{Marks}
@@ -92,12 +93,6 @@ scoredBy xs n a = record { assignment = a; score = getD xs n nan }
 abbrev pub keptWith : SearchBudget → Kept Evaluated → Evaluated → Kept Evaluated
 keptWith b k e = keepOne scoreOf sameEvaluated (b .«max_optima») (b .«tie_width») k e
 
--- ---- seeding
-
--- a walk that has evaluated the natives of the first n families
-abbrev pub seedWalk : ℕ → Walk
-seedWalk n = record { work = n; evaluations = n; natives = n; donors = 0; families = 0; stack = []; out = [] }
-
 -- ---- one evaluation
 
 -- 14 or 15 of the evaluation after n others, or 0
@@ -161,7 +156,7 @@ pub record Told (p : Panel) (b : SearchBudget) (v : ℕ) (xs : List Float) (fram
   pub keeps : Keeps v (b .«max_optima») kept (r .account .held) ks ss
   pub outcome : search p b xs
       ≡ record { ending = endingOf (r .stop) (frameOf frames (r .at .depth) .place); state = record { tally = tallied (r .at .tally) (r .account .counted); stack = stackOf frames (r .at .depth); kept = kept } }
-  pub linked : Linked frames (usedBy (r .stop) (r .at .depth))
+  pub words : take (usedBy (r .stop) (r .at .depth) * frameWidth) frames ≡ stackWords (stackOf frames (r .at .depth)) ++ pendingWords (endingOf (r .stop) (frameOf frames (r .at .depth) .place))
   pub deep : r .at .depth ≤ b .«max_frontier»
 
 pub record Ended (p : Panel) (b : SearchBudget) (v : ℕ) (xs : List Float) (fs ks : List ℕ) (ss : List Float) (fs′ ks′ : List ℕ) (ss′ : List Float) (r : Found) : Type 0 where
