@@ -173,11 +173,3 @@ pub record Sown (p : Panel) (h : Header) (b : SearchBudget) (v : ℕ) (xs : List
   pub over : r .refusal .number ≡ 0 → r .natives < h .families → r .natives < b .«max_evaluations» → b .«max_work» ≤ r .natives
   pub worked : r .natives ≤ b .«max_work»
   pub left : Left v (b .«max_optima») ks ss ks′ ss′
-
--- ---- the answer
-
-abbrev pub pendingAt : Stop → Bool
-pendingAt Exhausted = false
-pendingAt Work = false
-pendingAt Evaluation = false
-pendingAt Frontier = true

@@ -10,11 +10,10 @@ ghost use Rattle.evaluate.specs.Segments.{nativeOf};
 ghost use Rattle.evaluate.specs.Words.{encode};
 ghost use Rattle.search.specs.Rooms.{frameWidth};
 ghost use Rattle.search.specs.Run.{walk};
-ghost use Rattle.search.specs.Counters.{statusOf, statusNumber};
 ghost use Rattle.search.specs.Answers.{refusedSearch};
 ghost use Rattle.kept.specs.Inner.{Tidy, Ready};
 ghost use Rattle.walks.specs.Inner.{assigned, toGo, Walking};
-ghost use Rattle.searching.specs.Inner.{pendingAt, scoreRefusal, markedWith, Few, Marked, Settled, Entered, Onward, Ended, Sown};
+ghost use Rattle.searching.specs.Inner.{scoreRefusal, markedWith, Few, Marked, Settled, Entered, Onward, Ended, Sown};
 use evaluate::Segment;
 use search::SearchBudget;
 use search::Stop;
@@ -338,29 +337,6 @@ fn seed(
 }
 
 // ---- the answer
-
-// Whether a child is pending where this stopped the walk.
-fn is_pending(s: Stop) -> bool
-    ensures { λ r. ⌜ r ≡ pendingAt s ⌝ }
-{
-    match s {
-        Stop::Exhausted => false,
-        Stop::Work => false,
-        Stop::Evaluation => false,
-        Stop::Frontier => true,
-    }
-}
-
-fn status_number(s: Stop, discarded: bool) -> u64
-    ensures { λ r. ⌜ r ≡ statusNumber (statusOf s discarded) ⌝ }
-{
-    match s {
-        Stop::Exhausted => { if discarded { 2 } else { 1 } }
-        Stop::Work => 3,
-        Stop::Evaluation => 4,
-        Stop::Frontier => 5,
-    }
-}
 
 fn refused(number: u64, place: u64) -> search::SearchReply
     ensures { λ r. ⌜ r ≡ refusedSearch (record { number = number; place = place }) ⌝ }

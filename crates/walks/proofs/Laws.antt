@@ -6,9 +6,10 @@ use native.Mathlib.Omega.{arith}
 use mathlib.Core.Path.{_≡_, refl, sym, ap, ap₂, _∙_}
 use mathlib.Core.Bool.{Bool, true, false, not, _&&_}
 use mathlib.Core.Logic.{_⊎_, inl, inr}
-use mathlib.Core.List.{List, [], _∷_, _++_, append-nil}
+use mathlib.Core.List.{List, [], _∷_, _++_, append-nil, append-assoc}
 use lib.Dec.{leb, ltb, eqb}
-use lib.ListN.{length, take, drop, getD}
+use lib.ListN.{length, take, drop, getD, replicate, length-append, length-replicate}
+use lib.Seq.{length-take-le}
 use borrow.Author.Tests.{le-leb, lt-leb, lt-ltb, le-ltb}
 use Rattle.ground.specs.Lists.{pick, sum}
 use Rattle.image.specs.declared.Header.{Header}
@@ -19,6 +20,7 @@ use Rattle.image.specs.Panel.{Panel, panelOf, pathsAt}
 use Rattle.panel.specs.Inner.{Accepted}
 use Rattle.evaluate.specs.declared.Segment.{Segment}
 use Rattle.evaluate.specs.Segments.{Assignment}
+use Rattle.evaluate.specs.Check.{over}
 use Rattle.image.proofs.Laws.{panel-families, families-length, path-counts-length}
 use Rattle.search.specs.declared.SearchBudget.{SearchBudget}
 use Rattle.search.specs.declared.Tally.{Tally}
@@ -26,7 +28,7 @@ use Rattle.search.specs.declared.Stop.{Stop}
 use Rattle.search.specs.declared.Stop.the-variants.{Exhausted, Work, Evaluation, Frontier}
 use Rattle.search.specs.Walk.{Place, Frame, Doing, pass, down, give, Act, leave, doing, enter, unitOf, takesMember}
 use Rattle.search.specs.Run.{Walk, Walked, Phase, going, ended, Ending, exhausted, onWork, onEvaluation, onFrontier, limitsOf, root, stacked, begin, spend, handed, doneWith, left, afterAct, run}
-use Rattle.search.specs.Rooms.{frameWidth, placeWords, frameWords, stackWords, pendingWords}
+use Rattle.search.specs.Rooms.{frameWidth, placeWords, frameWords, stackWords, pendingWords, framesLeft}
 use Rattle.frames.specs.declared.Stored.{Stored}
 use Rattle.frames.specs.Inner.{Path, noPath, noSegment, longer, pathTo, pathAt, storedAt, placeWith, frameWith, put, frameOf, stackOf, Linked, Alike}
 use Rattle.frames.proofs.Laws.{length-put, drop-put, stored-same, stored-below, path-at, stack-none, stack-top, stack-above, stack-retop, stack-root, stack-push, length-stack, frame-below, frame-push, frame-retop, frame-root, alike-below, alike-path, linked-less, linked-root, linked-push, linked-retop, stack-suc, take-words}
@@ -40,7 +42,7 @@ use Rattle.walks.specs.declared.Standing.{Standing}
 use Rattle.walks.specs.declared.Halt.{Halt}
 use Rattle.walks.specs.declared.Halt.the-variants.{Stopped, Due}
 use Rattle.walks.specs.declared.Pause.{Pause}
-use Rattle.walks.specs.Inner.{spentOf, handedOf, doneOf, walkOf, gone, toGo, handing, before, endingOf, assigned, haltedAs, rootOf, Held, Walking, Kept, usedBy, Paused}
+use Rattle.walks.specs.Inner.{spentOf, handedOf, doneOf, walkOf, gone, toGo, handing, before, endingOf, assigned, haltedAs, rootOf, Held, Walking, Kept, usedBy, Paused, zeroed}
 use Rattle.walks.proofs.Steps.{run-after, run-ended, to-go-some, to-go-work, to-go-evaluation, to-go-act}
 
 -- ---- the room
@@ -662,3 +664,27 @@ module _ (s : List ℕ) (h : Header) (b : SearchBudget) (family : Family) (start
 
 pub evaluations-left : (b : SearchBudget) (t u : Tally) (k : ℕ) → u ≡ spentOf t k → t .evaluations < b .«max_evaluations» → u .evaluations < b .«max_evaluations»
 evaluations-left b t u k e l = rw e l
+
+-- ---- what a stopped walk leaves in the frame room
+
+pub used-few : (e : Stop) (d n : ℕ) → d ≤ n → usedBy e d ≤ n + 1
+used-few Exhausted d n h = omega arith
+used-few Work d n h = omega arith
+used-few Evaluation d n h = omega arith
+used-few Frontier d n h = omega arith
+
+pub used-frontier : (e : Stop) (d : ℕ) → e ≡ Frontier → d + 1 ≡ usedBy e d
+used-frontier e d q = rw q
+
+module _ (b : SearchBudget) (xs ys zs : List ℕ) (e : Stop) (d : ℕ) where
+  pub frames-left : Kept b xs ys → take (usedBy e d * frameWidth) ys ≡ stackWords (stackOf ys d) ++ pendingWords (endingOf e (frameOf ys d .place)) → d ≤ b .«max_frontier»
+      → (b .«max_frontier» + 1) * frameWidth ≤ length xs → zs ≡ zeroed (usedBy e d * frameWidth) ((b .«max_frontier» + 1) * frameWidth) ys → zs ≡ over (framesLeft b (endingOf e (frameOf ys d .place)) (stackOf ys d)) xs
+  unfolding framesLeft
+  frames-left k words deep room ez =
+      let few = used-few e d (b .«max_frontier») deep in
+      let same = k .long in
+      let used : length (take (usedBy e d * frameWidth) ys) ≡ usedBy e d * frameWidth = length-take-le (usedBy e d * frameWidth) ys (omega arith) in
+      let all : length (take (usedBy e d * frameWidth) ys ++ replicate ((b .«max_frontier» + 1) * frameWidth - usedBy e d * frameWidth) 0) ≡ (b .«max_frontier» + 1) * frameWidth =
+      length-append (take (usedBy e d * frameWidth) ys) (replicate ((b .«max_frontier» + 1) * frameWidth - usedBy e d * frameWidth) 0)
+      ∙ (let r = length-replicate {A = ℕ} ((b .«max_frontier» + 1) * frameWidth - usedBy e d * frameWidth) 0 in omega arith) in
+      ez ∙ rw (← words, used, all, append-assoc (take (usedBy e d * frameWidth) ys) (replicate ((b .«max_frontier» + 1) * frameWidth - usedBy e d * frameWidth) 0) (drop ((b .«max_frontier» + 1) * frameWidth) xs), ← k .rest)

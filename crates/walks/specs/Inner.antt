@@ -3,7 +3,7 @@ use Prim.Native.Nat.{ℕ, zero, suc, _+_, _-_, _*_, _≤_, _<_}
 use mathlib.Core.Path.{_≡_}
 use mathlib.Core.Bool.{Bool, true, false}
 use mathlib.Core.List.{List, [], _∷_, _++_}
-use lib.ListN.{length, take, drop, getD}
+use lib.ListN.{length, take, drop, getD, replicate}
 use Rattle.ground.specs.Lists.{sum}
 use Rattle.image.specs.declared.Header.{Header}
 use Rattle.image.specs.declared.Family.{Family}
@@ -129,3 +129,15 @@ pub record Paused (s : List ℕ) (h : Header) (b : SearchBudget) (xs ys : List �
   pub words : (e : Stop) → r .halt ≡ Stopped e
       → take (usedBy e (r .at .depth) * frameWidth) ys ≡ stackWords (stackOf ys (r .at .depth)) ++ pendingWords (endingOf e (frameOf ys (r .at .depth) .place))
   pub deep : r .at .depth ≤ b .«max_frontier»
+
+-- ---- a walk that stopped
+
+abbrev pub pendingAt : Stop → Bool
+pendingAt Exhausted = false
+pendingAt Work = false
+pendingAt Evaluation = false
+pendingAt Frontier = true
+
+-- a room with zeros from one place up to another
+abbrev pub zeroed : ℕ → ℕ → List ℕ → List ℕ
+zeroed from to xs = take from xs ++ (replicate (to - from) 0 ++ drop to xs)
