@@ -26,6 +26,7 @@ use Rattle.search.specs.Keep.{Kept, Evaluated, scoreOf, sameEvaluated, keepOne,
 use Rattle.search.specs.Search.{State, Searched, searchedAs, search, evaluationRefusal, fresh}
 use Rattle.search.specs.Rooms.{frameWidth, stackWords, pendingWords}
 use Rattle.frames.specs.Inner.{frameOf, stackOf}
+use Rattle.walks.specs.declared.Standing.{Standing}
 use Rattle.walks.specs.Inner.{endingOf, usedBy, seedWalk}
 use Rattle.walks.specs.Inner.{Kept as Room}
 use Rattle.kept.specs.Inner.{Recorded, Keeps, Left}
@@ -165,6 +166,14 @@ pub record Ended (p : Panel) (b : SearchBudget) (v : ℕ) (xs : List Float) (fs 
   pub left : Left v (b .«max_optima») ks ss ks′ ss′
   pub frames : Room b fs fs′
 
+-- the counters after seeding
+abbrev pub seedTally : ℕ → Tally
+seedTally n = record { work = n; evaluations = n; natives = n; donors = 0; «non_native» = 0; mixed = 0; «mixed_identity» = 0; switches = 0; families = 0 }
+
+-- a walk over the first family's root, or over no frame
+abbrev pub standingWith : ℕ → ℕ → Standing
+standingWith n d = record { tally = seedTally n; depth = d; start = 0; clear = true }
+
 -- seeding ended: refused, or with so many natives evaluated, and no other is to come
 pub record Sown (p : Panel) (h : Header) (b : SearchBudget) (v : ℕ) (xs : List Float) (ks : List ℕ) (ss : List Float) (ks′ : List ℕ) (ss′ : List Float) (r : Seeded) : Type 0 where
   pub refused : 0 < r .refusal .number → r .refusal ≡ evaluationRefusal p b xs fresh
@@ -173,3 +182,9 @@ pub record Sown (p : Panel) (h : Header) (b : SearchBudget) (v : ℕ) (xs : List
   pub over : r .refusal .number ≡ 0 → r .natives < h .families → r .natives < b .«max_evaluations» → b .«max_work» ≤ r .natives
   pub worked : r .natives ≤ b .«max_work»
   pub left : Left v (b .«max_optima») ks ss ks′ ss′
+
+-- the frame room is as long as a walk needs
+pub record Framable (b : SearchBudget) (fs : List ℕ) : Type 0 where
+  pub some : 0 < b .«max_frontier»
+  pub few : b .«max_frontier» ≤ 1024
+  pub room : (b .«max_frontier» + 1) * frameWidth ≤ length fs

@@ -13,7 +13,7 @@ ghost use Rattle.search.specs.Run.{walk};
 ghost use Rattle.search.specs.Answers.{refusedSearch};
 ghost use Rattle.kept.specs.Inner.{Tidy, Ready};
 ghost use Rattle.walks.specs.Inner.{assigned, toGo, Walking};
-ghost use Rattle.searching.specs.Inner.{scoreRefusal, markedWith, Few, Marked, Settled, Entered, Onward, Ended, Sown};
+ghost use Rattle.searching.specs.Inner.{scoreRefusal, markedWith, Few, Marked, Settled, Entered, Onward, Ended, Sown, standingWith, Framable};
 use evaluate::Segment;
 use search::SearchBudget;
 use search::Stop;
@@ -334,6 +334,93 @@ fn seed(
         natives,
         account,
     }
+}
+
+// Where a walk stands after seeding, with so many frames of the first family.
+fn standing(natives: u64, depth: usize) -> Standing
+    ensures { λ r. ⌜ r ≡ standingWith natives depth ⌝ }
+{
+    Standing {
+        tally: search::Tally {
+            work: natives,
+            evaluations: natives,
+            natives,
+            donors: 0,
+            non_native: 0,
+            mixed: 0,
+            mixed_identity: 0,
+            switches: 0,
+            families: 0,
+        },
+        depth,
+        start: 0,
+        clear: true,
+    }
+}
+
+// A search that ends with its seeding.
+fn ended_early(refusal: evaluate::Refusal, stop: Stop, natives: u64, account: Account) -> Found
+    ensures { λ r. ⌜ r ≡ record { refusal = refusal; stop = stop; at = standingWith natives 0; account = account } ⌝ }
+{
+    Found {
+        refusal,
+        stop,
+        at: standing(natives, 0),
+        account,
+    }
+}
+
+// Seeding, then the walk over all families.
+fn search_families(
+    image: &[u8],
+    h: image::Header,
+    starts: &[usize; 4096],
+    b: SearchBudget,
+    v: usize,
+    scores: &[f64],
+    frames: &mut [u64],
+    kept: &mut [u64],
+    kept_scores: &mut [f64],
+    first: Account,
+) -> Found
+    requires { ⌜ Accepted (now image) h × Started (now image) h (now starts) ⌝ }
+    requires { ⌜ Framable b (now frames) ⌝ }
+    requires { ⌜ Onward (panelOf (now image)) b v (now scores) (walk (panelOf (now image)) b) first (now kept) (now «kept_scores») ⌝ }
+    ensures { λ r. ⌜ Ended (panelOf (now (image .entry))) b v (now (scores .entry)) (now (frames .entry)) (now (kept .entry)) (now («kept_scores» .entry)) (now (frames .exit)) (now (kept .exit)) (now («kept_scores» .exit)) r ⌝ }
+{
+    let s = seed(image, h, b, v, scores, kept, kept_scores, first);
+    let n = s.natives as u64;
+    let none = evaluate::Refusal {
+        number: 0,
+        place: 0,
+    };
+    if 0 < s.refusal.number {
+        return ended_early(s.refusal, Stop::Exhausted, n, s.account);
+    }
+    if s.natives < h.families {
+        if n >= b.max_evaluations {
+            return ended_early(none, Stop::Evaluation, n, s.account);
+        }
+        return ended_early(none, Stop::Work, n, s.account);
+    }
+    if h.families == 0 {
+        return ended_early(none, Stop::Exhausted, n, s.account);
+    }
+    walks::put_root(image, h, starts, frames, 0, 0);
+    let at = standing(n, 1);
+    run(
+        image,
+        h,
+        starts,
+        b,
+        v,
+        scores,
+        frames,
+        kept,
+        kept_scores,
+        at,
+        s.account,
+    )
 }
 
 // ---- the answer
