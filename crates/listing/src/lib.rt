@@ -1,9 +1,22 @@
-// The listing's evaluation: an assignment's words go to out, if their turn has come and they fit.
+// The listing: the walk without scores; an assignment's words go to out, if their turn has come and they fit.
 ghost use mathlib.Core.Path.{_≡_};
 ghost use mathlib.Core.List.{_++_};
-ghost use Prim.Native.Nat.{_+_, _≤_, _<_};
+ghost use Prim.Native.Nat.{_+_, _*_, _-_, _≤_, _<_};
 ghost use lib.ListN.{length, take, drop};
-ghost use Rattle.listing.specs.Inner.{Handed};
+ghost use Rattle.image.specs.Inner.{Groups, Started};
+ghost use Rattle.image.specs.Panel.{panelOf};
+ghost use Rattle.panel.specs.Inner.{Accepted};
+ghost use Rattle.evaluate.specs.Segments.{nativeOf};
+ghost use Rattle.evaluate.specs.Words.{encode};
+ghost use Rattle.search.specs.Rooms.{frameWidth};
+ghost use Rattle.search.specs.Run.{walk};
+ghost use Rattle.walks.specs.Inner.{assigned, toGo, Walking};
+ghost use Rattle.listing.specs.Inner.{Handed, Onward, Entered, Ended, Sown};
+use evaluate::Segment;
+use search::SearchBudget;
+use search::Stop;
+use walks::Halt;
+use walks::Standing;
 
 // How many evaluations are still to be skipped, whether one did not fit, how many were written, and their words.
 pub struct Listing {
@@ -12,6 +25,21 @@ pub struct Listing {
     pub written: u64,
     pub words: usize,
 }
+
+// How a listing ended: which budget stopped it, and where its walk then stands.
+pub struct Listed {
+    pub stop: Stop,
+    pub at: Standing,
+    pub listing: Listing,
+}
+
+// Where seeding ended.
+pub struct Seeded {
+    pub natives: usize,
+    pub listing: Listing,
+}
+
+// ---- one evaluation
 
 fn copy_words(out: &mut [u64], at: usize, words: &[u64], n: usize)
     requires { ⌜ (at + n ≤ length (now out)) × (n ≤ length (now words)) ⌝ }
@@ -50,4 +78,104 @@ pub fn hand_over(out: &mut [u64], l: Listing, slot: &[u64], n: usize) -> Listing
     } else {
         Listing { full: true, ..l }
     }
+}
+
+// An evaluation of the walk: the assignment that the path and a closing piece complete.
+fn list_path(
+    frames: &[u64],
+    slot: &mut [u64],
+    out: &mut [u64],
+    at: Standing,
+    s: Segment,
+    l: Listing,
+) -> Listing
+    requires { ⌜ (0 < at .depth) × (at .depth * frameWidth ≤ length (now frames)) × (length (encode (assigned (at .tally .families) (now frames) (at .depth - 1) s)) ≤ length (now slot)) × (l .words ≤ length (now out)) × (l .written ≤ l .words) ⌝ }
+    ensures { λ r. ⌜ Entered (assigned (at .tally .families) (now (frames .entry)) (at .depth - 1) s) (now (slot .entry)) (now (out .entry)) (now (slot .exit)) (now (out .exit)) l r ⌝ }
+{
+    let n = writer::put_path(slot, frames, at.depth - 1, at.tally.families, s);
+    hand_over(out, l, slot, n)
+}
+
+// An evaluation of seeding: a family's native assignment.
+fn list_native(
+    image: &[u8],
+    h: image::Header,
+    slot: &mut [u64],
+    out: &mut [u64],
+    family: image::Family,
+    l: Listing,
+) -> Listing
+    requires { ⌜ Accepted (now image) h × Groups (now image) h family × (length (encode (nativeOf (panelOf (now image)) (family .number))) ≤ length (now slot)) × (l .words ≤ length (now out)) × (l .written ≤ l .words) ⌝ }
+    ensures { λ r. ⌜ Entered (nativeOf (panelOf (now (image .entry))) (family .number)) (now (slot .entry)) (now (out .entry)) (now (slot .exit)) (now (out .exit)) l r ⌝ }
+{
+    let n = writer::put_native(slot, image, h, family);
+    hand_over(out, l, slot, n)
+}
+
+// ---- the listing under way
+
+// The walk goes on from where it stands; each evaluation that is due is listed.
+fn run(
+    image: &[u8],
+    h: image::Header,
+    starts: &[usize; 4096],
+    b: SearchBudget,
+    v: usize,
+    frames: &mut [u64],
+    slot: &mut [u64],
+    out: &mut [u64],
+    from: Standing,
+    first: Listing,
+) -> Listed
+    requires { ⌜ Accepted (now image) h × Started (now image) h (now starts) ⌝ }
+    requires { ⌜ Walking (now image) h b (now frames) (from .tally) (from .depth) (from .start) (from .clear) ⌝ }
+    requires { ⌜ Onward v (toGo (panelOf (now image)) b (from .tally) (now frames) (from .depth)) first (now slot) (now out) ⌝ }
+    ensures { λ r. ⌜ Ended b v (toGo (panelOf (now (image .entry))) b (from .tally) (now (frames .entry)) (from .depth)) first (now (frames .entry)) (now (slot .entry)) (now (out .entry)) (now (frames .exit)) (now (slot .exit)) (now (out .exit)) r ⌝ }
+{
+    let mut at = from;
+    let mut listing = first;
+    loop {
+        let pause = walks::go_on(image, h, starts, b, frames, at);
+        at = pause.at;
+        let halt = pause.halt;
+        match halt {
+            Halt::Stopped(stop) => {
+                return Listed { stop, at, listing };
+            }
+            Halt::Due(s) => {
+                listing = list_path(frames, slot, out, at, s, listing);
+            }
+        }
+    }
+}
+
+// The natives, family by family, while work and evaluations are left.
+fn seed(
+    image: &[u8],
+    h: image::Header,
+    b: SearchBudget,
+    v: usize,
+    slot: &mut [u64],
+    out: &mut [u64],
+    first: Listing,
+) -> Seeded
+    requires { ⌜ Accepted (now image) h × Onward v (walk (panelOf (now image)) b) first (now slot) (now out) ⌝ }
+    ensures { λ r. ⌜ Sown (panelOf (now (image .entry))) h b v first (now (slot .entry)) (now (out .entry)) (now (slot .exit)) (now (out .exit)) r ⌝ }
+{
+    let mut natives: usize = 0;
+    let mut start: usize = 0;
+    let mut listing = first;
+    while natives < h.families {
+        if natives as u64 >= b.max_work {
+            return Seeded { natives, listing };
+        }
+        if natives as u64 >= b.max_evaluations {
+            return Seeded { natives, listing };
+        }
+        let family = image::family_from(image, h, natives, start);
+        listing = list_native(image, h, slot, out, family, listing);
+        start = image::family_end(image, h, family);
+        natives += 1;
+    }
+    Seeded { natives, listing }
 }
