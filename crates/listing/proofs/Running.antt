@@ -53,7 +53,7 @@ pub under-start : {s : List ℕ} {h : Header} {b : SearchBudget} {v : ℕ} {l : 
     → Walking s h b fs (at .tally) (at .depth) (at .start) (at .clear) → Under s h b v (toGo (panelOf s) b (at .tally) fs (at .depth)) l fs xs out fs xs out at l
 under-start {s} {h} {b} {v} {l} {fs} {xs} o w = record { same = refl; onward = o; walking = w; frames = record { long = refl; rest = refl }; slot = spared-none v xs; long = refl }
 
-room-on : {b : SearchBudget} {xs ys zs : List ℕ} → Room b xs ys → Room b ys zs → Room b xs zs
+pub room-on : {b : SearchBudget} {xs ys zs : List ℕ} → Room b xs ys → Room b ys zs → Room b xs zs
 room-on k l = record { long = l .long ∙ k .long; rest = l .rest ∙ k .rest }
 
 module _ {s : List ℕ} {h : Header} {b : SearchBudget} {v : ℕ} {w : Walked} {l : Listing} {fs xs out fs′ xs′ out′ : List ℕ} {at : Standing} {l′ : Listing}

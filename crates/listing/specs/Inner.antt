@@ -14,6 +14,7 @@ use Rattle.evaluate.specs.Words.{encode}
 use Rattle.evaluate.specs.Check.{over}
 use Rattle.evaluate.specs.Properties.{Each}
 use Rattle.search.specs.declared.SearchBudget.{SearchBudget}
+use Rattle.search.specs.declared.Tally.{Tally}
 use Rattle.search.specs.declared.ListReply.{ListReply}
 use Rattle.search.specs.Walk.{Frame}
 use Rattle.search.specs.Run.{Ending, Walk, Walked, walkFrom, walk}
@@ -74,6 +75,10 @@ comesTo r l out =
 abbrev pub noneListed : ℕ → Listing
 noneListed from = record { skip = from; full = false; written = 0; words = 0 }
 
+-- the counters after so many natives
+abbrev pub seedTally : ℕ → Tally
+seedTally n = record { work = n; evaluations = n; natives = n; donors = 0; «non_native» = 0; mixed = 0; «mixed_identity» = 0; switches = 0; families = 0 }
+
 -- ---- under way
 
 abbrev pub Fitting : ℕ → Assignment → Type 0
@@ -124,6 +129,12 @@ pub record Sown (p : Panel) (h : Header) (b : SearchBudget) (v : ℕ) (l : Listi
   pub long : length out′ ≡ length out
 
 -- ---- the answer
+
+-- a budget within its bounds, and a frame room that is long enough
+pub record Framed (b : SearchBudget) (frames : List ℕ) : Type 0 where
+  pub some : 0 < b .«max_frontier»
+  pub small : b .«max_frontier» ≤ 1024
+  pub room : (b .«max_frontier» + 1) * frameWidth ≤ length frames
 
 -- the listing of an accepted panel within its budgets and rooms
 pub record Told (p : Panel) (b : SearchBudget) (from : ℕ) (fs xs out fs′ xs′ out′ : List ℕ) (r : ListReply) : Type 0 where

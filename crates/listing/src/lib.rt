@@ -1,5 +1,6 @@
 // The listing: the walk without scores; an assignment's words go to out, if their turn has come and they fit.
 ghost use mathlib.Core.Path.{_≡_};
+ghost use mathlib.Core.Bool.{false};
 ghost use mathlib.Core.List.{_++_};
 ghost use Prim.Native.Nat.{_+_, _*_, _-_, _≤_, _<_};
 ghost use lib.ListN.{length, take, drop};
@@ -8,13 +9,17 @@ ghost use Rattle.image.specs.Panel.{panelOf};
 ghost use Rattle.panel.specs.Inner.{Accepted};
 ghost use Rattle.evaluate.specs.Segments.{nativeOf};
 ghost use Rattle.evaluate.specs.Words.{encode};
-ghost use Rattle.search.specs.Rooms.{frameWidth};
+ghost use Rattle.search.specs.Rooms.{frameWidth, slotWidth};
 ghost use Rattle.search.specs.Run.{walk};
 ghost use Rattle.walks.specs.Inner.{assigned, toGo, Walking};
-ghost use Rattle.listing.specs.Inner.{Handed, Onward, Entered, Ended, Sown};
+ghost use Rattle.search.specs.Counters.{statusOf, statusNumber};
+ghost use Rattle.search.specs.Answers.{refusedList};
+ghost use Rattle.listing.specs.Inner.{Handed, noneListed, seedTally, Framed, Onward, Entered, Ended, Sown, Told};
 use evaluate::Segment;
+use search::ListReply;
 use search::SearchBudget;
 use search::Stop;
+use search::Tally;
 use walks::Halt;
 use walks::Standing;
 
@@ -178,4 +183,119 @@ fn seed(
         natives += 1;
     }
     Seeded { natives, listing }
+}
+
+// The counters after so many natives.
+fn seeded_tally(natives: usize) -> Tally
+    ensures { λ r. ⌜ r ≡ seedTally natives ⌝ }
+{
+    let n = natives as u64;
+    Tally {
+        work: n,
+        evaluations: n,
+        natives: n,
+        donors: 0,
+        non_native: 0,
+        mixed: 0,
+        mixed_identity: 0,
+        switches: 0,
+        families: 0,
+    }
+}
+
+// Seeding, then the walk over all families.
+fn list_families(
+    image: &[u8],
+    h: image::Header,
+    starts: &[usize; 4096],
+    b: SearchBudget,
+    v: usize,
+    frames: &mut [u64],
+    slot: &mut [u64],
+    out: &mut [u64],
+    first: Listing,
+) -> Listed
+    requires { ⌜ Accepted (now image) h × Started (now image) h (now starts) × Framed b (now frames) ⌝ }
+    requires { ⌜ Onward v (walk (panelOf (now image)) b) first (now slot) (now out) ⌝ }
+    ensures { λ r. ⌜ Ended b v (walk (panelOf (now (image .entry))) b) first (now (frames .entry)) (now (slot .entry)) (now (out .entry)) (now (frames .exit)) (now (slot .exit)) (now (out .exit)) r ⌝ }
+{
+    let s = seed(image, h, b, v, slot, out, first);
+    let n = s.natives;
+    let listing = s.listing;
+    let tally = seeded_tally(n);
+    let at = Standing {
+        tally,
+        depth: 0,
+        start: 0,
+        clear: true,
+    };
+    if n < h.families {
+        if n as u64 >= b.max_evaluations {
+            return Listed {
+                stop: Stop::Evaluation,
+                at,
+                listing,
+            };
+        }
+        return Listed {
+            stop: Stop::Work,
+            at,
+            listing,
+        };
+    }
+    if h.families == 0 {
+        return Listed {
+            stop: Stop::Exhausted,
+            at,
+            listing,
+        };
+    }
+    walks::put_root(image, h, starts, frames, 0, 0);
+    let root = Standing { depth: 1, ..at };
+    run(image, h, starts, b, v, frames, slot, out, root, listing)
+}
+
+// ---- the answer
+
+fn reply(e: Listed) -> ListReply
+    ensures { λ r. ⌜ r ≡ record { refusal = 0; place = 0; status = statusNumber (statusOf (e .stop) false); written = e .listing .written; words = e .listing .words; evaluations = e .at .tally .evaluations } ⌝ }
+{
+    let stop = e.stop;
+    ListReply {
+        refusal: 0,
+        place: 0,
+        status: walks::status_number(stop, false),
+        written: e.listing.written,
+        words: e.listing.words as u64,
+        evaluations: e.at.tally.evaluations,
+    }
+}
+
+// The listing, for which there is room: the frame room past the frames left and the slot are zeroed.
+fn list_in(
+    image: &[u8],
+    h: image::Header,
+    b: SearchBudget,
+    v: usize,
+    from: u64,
+    frames: &mut [u64],
+    slot: &mut [u64],
+    out: &mut [u64],
+) -> ListReply
+    requires { ⌜ Accepted (now image) h × Framed b (now frames) ⌝ }
+    requires { ⌜ (v ≡ slotWidth (panelOf (now image)) b) × (v ≤ length (now slot)) ⌝ }
+    ensures { λ r. ⌜ Told (panelOf (now (image .entry))) b from (now (frames .entry)) (now (slot .entry)) (now (out .entry)) (now (frames .exit)) (now (slot .exit)) (now (out .exit)) r ⌝ }
+{
+    let starts = image::lane_starts(image, h);
+    let first = Listing {
+        skip: from,
+        full: false,
+        written: 0,
+        words: 0,
+    };
+    let e = list_families(image, h, &starts, b, v, frames, slot, out, first);
+    let stop = e.stop;
+    walks::leave_frames(b, frames, stop, e.at.depth);
+    frames::clear_words(slot, 0, v);
+    reply(e)
 }
