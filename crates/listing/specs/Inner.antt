@@ -9,6 +9,7 @@ use Rattle.ground.specs.Lists.{pick}
 use Rattle.image.specs.declared.Header.{Header}
 use Rattle.image.specs.Panel.{Panel}
 use Rattle.evaluate.specs.declared.Refusal.{Refusal}
+use Rattle.evaluate.specs.Refusals.{noRefusal, at}
 use Rattle.evaluate.specs.Segments.{Assignment, flat}
 use Rattle.evaluate.specs.Words.{encode}
 use Rattle.evaluate.specs.Check.{over}
@@ -16,9 +17,10 @@ use Rattle.evaluate.specs.Properties.{Each}
 use Rattle.search.specs.declared.SearchBudget.{SearchBudget}
 use Rattle.search.specs.declared.Tally.{Tally}
 use Rattle.search.specs.declared.ListReply.{ListReply}
+use Rattle.search.specs.Budget.{budgetRefusal}
 use Rattle.search.specs.Walk.{Frame}
 use Rattle.search.specs.Run.{Ending, Walk, Walked, walkFrom, walk}
-use Rattle.search.specs.Rooms.{frameWidth, stackWords, pendingWords, framesLeft, slotWidth}
+use Rattle.search.specs.Rooms.{frameWidth, stackWords, pendingWords, framesLeft, slotWidth, listRoomsRefusal}
 use Rattle.search.specs.Answers.{ListRooms, fitting, written, refusedList, listReplyOf, listedIn}
 use Rattle.frames.specs.Inner.{frameOf, stackOf}
 use Rattle.walks.specs.Inner.{endingOf, usedBy, seedWalk}
@@ -142,6 +144,10 @@ pub record Told (p : Panel) (b : SearchBudget) (from : ℕ) (fs xs out fs′ xs�
   pub frames : fs′ ≡ over (framesLeft b (walk p b .ending) (walk p b .walk .stack)) fs
   pub slot : xs′ ≡ over (replicate (slotWidth p b) 0) xs
   pub room : out′ ≡ over (flat (written from (length out) (walk p b .walk .out))) out
+
+-- 11 to 13
+abbrev pub listPanelRefusal : Panel → SearchBudget → ℕ → ℕ → Refusal
+listPanelRefusal p b frames slot = at (budgetRefusal b) 0 (at (listRoomsRefusal p b frames slot) 0 noRefusal)
 
 -- the answer that goes with a refusal, and what it leaves of the rooms
 pub record Replied (p : Panel) (b : SearchBudget) (from : ℕ) (refusal : Refusal) (before after : ListRooms) (r : ListReply) : Type 0 where

@@ -13,8 +13,8 @@ ghost use Rattle.search.specs.Rooms.{frameWidth, slotWidth};
 ghost use Rattle.search.specs.Run.{walk};
 ghost use Rattle.walks.specs.Inner.{assigned, toGo, Walking};
 ghost use Rattle.search.specs.Counters.{statusOf, statusNumber};
-ghost use Rattle.search.specs.Answers.{refusedList};
-ghost use Rattle.listing.specs.Inner.{Handed, noneListed, seedTally, Framed, Onward, Entered, Ended, Sown, Told};
+ghost use Rattle.search.specs.Answers.{ListRooms, refusedList, listAnswer, listRooms};
+ghost use Rattle.listing.specs.Inner.{Handed, noneListed, seedTally, Framed, Onward, Entered, Ended, Sown, Told, Replied, listPanelRefusal};
 use evaluate::Segment;
 use search::ListReply;
 use search::SearchBudget;
@@ -298,4 +298,60 @@ fn list_in(
     walks::leave_frames(b, frames, stop, e.at.depth);
     frames::clear_words(slot, 0, v);
     reply(e)
+}
+
+fn refused(number: u64) -> ListReply
+    ensures { λ r. ⌜ r ≡ refusedList (record { number = number; place = 0 }) ⌝ }
+{
+    ListReply {
+        refusal: number,
+        place: 0,
+        status: 0,
+        written: 0,
+        words: 0,
+        evaluations: 0,
+    }
+}
+
+// 11 to 13, and the listing, over an accepted panel.
+fn list_panel(
+    image: &[u8],
+    h: image::Header,
+    b: SearchBudget,
+    from: u64,
+    frames: &mut [u64],
+    slot: &mut [u64],
+    out: &mut [u64],
+) -> ListReply
+    requires { ⌜ Accepted (now image) h ⌝ }
+    ensures { λ r. ⌜ Replied (panelOf (now (image .entry))) b from (listPanelRefusal (panelOf (now (image .entry))) b (length (now (frames .entry))) (length (now (slot .entry)))) (record { frames = now (frames .entry); slot = now (slot .entry); out = now (out .entry) }) (record { frames = now (frames .exit); slot = now (slot .exit); out = now (out .exit) }) r ⌝ }
+{
+    let budgets = budget::budget_refusal(b);
+    if 0 < budgets {
+        return refused(budgets);
+    }
+    let v = budget::slot_width(image, h, b);
+    let rooms = budget::list_rooms_refusal(b, v, frames.len(), slot.len());
+    if 0 < rooms {
+        return refused(rooms);
+    }
+    list_in(image, h, b, v, from, frames, slot, out)
+}
+
+// The listing: the walk's assignments with numbers from + 1 on, as many as fit into out.
+pub fn list(
+    image: &[u8],
+    b: SearchBudget,
+    from: u64,
+    frames: &mut [u64],
+    slot: &mut [u64],
+    out: &mut [u64],
+) -> search::ListReply
+    ensures { λ r. ⌜ r ≡ listAnswer (now (image .entry)) b from (record { frames = now (frames .entry); slot = now (slot .entry); out = now (out .entry) }) ⌝ }
+    ensures { λ r. ⌜ _≡_ {A = ListRooms} (record { frames = now (frames .exit); slot = now (slot .exit); out = now (out .exit) }) (listRooms (now (image .entry)) b from (record { frames = now (frames .entry); slot = now (slot .entry); out = now (out .entry) })) ⌝ }
+{
+    match graph::check_panel(image) {
+        image::Opened::Good(h) => list_panel(image, h, b, from, frames, slot, out),
+        image::Opened::Refused(n) => refused(n),
+    }
 }
