@@ -5,13 +5,13 @@ use native.Mathlib.Omega.{arith}
 use mathlib.Core.Path.{_≡_, refl, sym, ap, ap₂, _∙_}
 use mathlib.Core.Bool.{Bool, true, false, _&&_}
 use mathlib.Core.List.{List, [], _∷_}
-use lib.Dec.{leb}
+use lib.Dec.{leb, ltb}
 use lib.ListN.{length, drop, getD, length-drop, drop-of-length-le}
 use lib.Seq.{length-take-le}
 use lib.Ieee as Ieee
 use lib.Ieee.{Float, nan, inf, fin}
 use lib.Ieee.Scale.{finite}
-use borrow.Author.Tests.{leb-true}
+use borrow.Author.Tests.{leb-true, ltb-true}
 use mir.Val.{Fits}
 use mir.Syntax.{w64}
 use borrow.Author.Needs.{fits-under}
@@ -24,7 +24,7 @@ use Rattle.image.specs.Inner.{Grouped}
 use Rattle.image.specs.Panel.{Panel, panelBy, panelOf}
 use Rattle.image.proofs.Laws.{path-counts-length, paths-length}
 use Rattle.search.specs.declared.SearchBudget.{SearchBudget}
-use Rattle.search.specs.Budget.{mostFrontier, mostOptima, budgetOk, budgetInBounds, budgetRefusal}
+use Rattle.search.specs.Budget.{mostFrontier, mostOptima, widthOk, budgetOk, budgetInBounds, budgetRefusal}
 use Rattle.search.specs.Rooms.{mostPaths, widthFor, slotWidth, framesNeeded, keptNeeded, scoresNeeded, roomsRefusal, listRoomsRefusal}
 use Rattle.budget.specs.Inner.{Bounded, mostWidth, roomsBy, listRoomsBy}
 
@@ -128,6 +128,18 @@ budget-bounded b e = go (budgetOk b) (leb (b .«max_frontier») mostFrontier && 
         record { frontier = leb-true _ _ (p .0); optima = leb-true _ _ (p .1) }
     go true false f e = let z : ⊥ = omega arith in absurd z
     go false y f e = let z : ⊥ = omega arith in absurd z
+
+pub budget-frontier : (b : SearchBudget) → budgetRefusal b ≡ 0 → 0 < b .«max_frontier»
+unfolding budgetRefusal budgetOk
+budget-frontier b e = go (budgetOk b) refl e
+  where
+    go : (x : Bool) → budgetOk b ≡ x → unless x 11 (unless (budgetInBounds b) 12 0) ≡ 0 → 0 < b .«max_frontier»
+    go true f e =
+        let p = both (ltb 0 (b .«max_work») && ltb 0 (b .«max_evaluations») && ltb 0 (b .«max_frontier») && ltb 0 (b .«max_optima»)) (widthOk (b .«tie_width»)) f in
+        let q = both (ltb 0 (b .«max_work») && ltb 0 (b .«max_evaluations») && ltb 0 (b .«max_frontier»)) (ltb 0 (b .«max_optima»)) (p .0) in
+        let r = both (ltb 0 (b .«max_work») && ltb 0 (b .«max_evaluations»)) (ltb 0 (b .«max_frontier»)) (q .0) in
+        ltb-true _ _ (r .1)
+    go false f e = let z : ⊥ = omega arith in absurd z
 
 pub rooms-by : (p : Panel) (b : SearchBudget) (v frames kept scores : ℕ) → v ≡ slotWidth p b → roomsBy b v frames kept scores ≡ roomsRefusal p b frames kept scores
 unfolding roomsBy roomsRefusal

@@ -1,6 +1,7 @@
 // The budgeted walk over donor switches (search.rs): what it is given, and what it answers.
 
 // The budgets: four whole numbers and the tie width.
+#[repr(C)]
 pub struct SearchBudget {
     pub max_work: u64,
     pub max_evaluations: u64,
@@ -40,6 +41,7 @@ pub struct Tally {
 }
 
 // What the search answers.
+#[repr(C)]
 pub struct SearchReply {
     pub refusal: u64,
     pub place: u64,
@@ -60,6 +62,7 @@ pub struct SearchReply {
 }
 
 // What the listing answers.
+#[repr(C)]
 pub struct ListReply {
     pub refusal: u64,
     pub place: u64,

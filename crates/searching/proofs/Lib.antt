@@ -1,5 +1,5 @@
 pub mod Rest
-pub mod Seeds
 pub mod Entering
 pub mod Running
 pub mod Sowing
+pub mod Answer

@@ -24,7 +24,7 @@ use Rattle.search.specs.Keep.{Kept, nothing, Evaluated, scoreOf, sameEvaluated,
 use Rattle.search.specs.Search.{State, Searched, searchedAs, keptOf, walked, searchFrom, search, evaluationRefusal, fresh}
 use Rattle.walks.specs.Inner.{walkOf, before}
 use Rattle.searching.specs.declared.Counted.{Counted}
-use Rattle.searching.specs.Inner.{noneCounted, countedWith, tallied, stateWith, outcomeOf, refusalOf, scoredBy, keptWith, seedWalk}
+use Rattle.searching.specs.Inner.{noneCounted, countedWith, tallied, stateWith, outcomeOf, refusalOf, scoredBy, keptWith}
 
 -- ---- one evaluation
 

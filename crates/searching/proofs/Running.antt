@@ -120,7 +120,7 @@ pub under-start : {s : List ℕ} {h : Header} {b : SearchBudget} {v : ℕ} {xs :
     → Onward (panelOf s) b v xs (toGo (panelOf s) b (at .tally) fs (at .depth)) account ks ss → Walking s h b fs (at .tally) (at .depth) (at .start) (at .clear) → Under s h b v xs fs ks ss fs ks ss at account
 under-start {s} {h} {b} {v} {xs} {fs} {ks} {ss} o w = record { onward = o; walking = w; left = left-none ks ss; frames = record { long = refl; rest = refl } }
 
-room-on : {b : SearchBudget} {xs ys zs : List ℕ} → Room b xs ys → Room b ys zs → Room b xs zs
+pub room-on : {b : SearchBudget} {xs ys zs : List ℕ} → Room b xs ys → Room b ys zs → Room b xs zs
 room-on k l = record { long = l .long ∙ k .long; rest = l .rest ∙ k .rest }
 
 module _ {s : List ℕ} {h : Header} {b : SearchBudget} {v : ℕ} {xs : List Float} {fs ks : List ℕ} {ss : List Float} {fs′ ks′ : List ℕ} {ss′ : List Float} {at : Standing} {account : Account}
@@ -150,7 +150,7 @@ module _ {s : List ℕ} {h : Header} {b : SearchBudget} {v : ℕ} {xs : List Flo
                 keeps = o .keeps;
                 outcome = sym (o .same) ∙ ap (outcomeOf (panelOf s) b xs (account .counted) (o .kept)) stopped-as
                     ∙ outcome-end (panelOf s) b xs (account .counted) (o .kept) (endingOf e (frameOf ys (q .at .depth) .place)) (q .at .tally) (stackOf ys (q .at .depth));
-                linked = g .linked e stops;
+                words = g .words e stops;
                 deep = g .deep;
               };
           left = u .left;

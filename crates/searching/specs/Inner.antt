@@ -5,7 +5,7 @@ use mathlib.Core.Bool.{Bool, true, false}
 use mathlib.Core.List.{List, [], _∷_, _++_}
 use lib.ListN.{length, take, drop, getD}
 use lib.Ieee.{Float, nan}
-use lib.Dec.{ltb}
+use lib.Dec.{ltb, eqb}
 use lib.Ieee.Scale.{finite}
 use Rattle.ground.specs.Lists.{pick, oneMoreIf}
 use mathlib.Core.Logic.{_⊎_}
@@ -13,19 +13,25 @@ use Rattle.image.specs.declared.Header.{Header}
 use Rattle.image.specs.Panel.{Panel}
 use Rattle.evaluate.specs.declared.Refusal.{Refusal}
 use Rattle.evaluate.specs.Segments.{Assignment}
-use Rattle.evaluate.specs.Words.{encode}
+use Rattle.evaluate.specs.Words.{bit, encode}
 use Rattle.evaluate.specs.Check.{over}
 use Rattle.evaluate.specs.Properties.{Each}
 use Rattle.search.specs.declared.SearchBudget.{SearchBudget}
 use Rattle.search.specs.declared.Tally.{Tally}
 use Rattle.search.specs.declared.Stop.{Stop}
+use Rattle.search.specs.declared.SearchReply.{SearchReply}
 use Rattle.search.specs.declared.Stop.the-variants.{Exhausted, Work, Evaluation, Frontier}
 use Rattle.search.specs.Run.{Walk, Walked, walkFrom}
-use Rattle.search.specs.Counters.{switchesOf, hasSwitch, mixesLanes, mixesIdentities}
+use Rattle.search.specs.Counters.{switchesOf, hasSwitch, mixesLanes, mixesIdentities, statusOf, statusNumber}
 use Rattle.search.specs.Keep.{Kept, Evaluated, scoreOf, sameEvaluated, keepOne, scoresRefusal}
 use Rattle.search.specs.Search.{State, Searched, searchedAs, search, evaluationRefusal, fresh}
-use Rattle.frames.specs.Inner.{frameOf, stackOf, Linked}
-use Rattle.walks.specs.Inner.{endingOf, usedBy}
+use Rattle.evaluate.specs.Refusals.{at}
+use Rattle.search.specs.Budget.{budgetRefusal}
+use Rattle.search.specs.Answers.{Rooms, replyOf, refusedSearch, roomsAfter}
+use Rattle.search.specs.Rooms.{frameWidth, stackWords, pendingWords, roomsRefusal}
+use Rattle.frames.specs.Inner.{frameOf, stackOf}
+use Rattle.walks.specs.declared.Standing.{Standing}
+use Rattle.walks.specs.Inner.{endingOf, usedBy, seedWalk, pendingAt}
 use Rattle.walks.specs.Inner.{Kept as Room}
 use Rattle.kept.specs.Inner.{Recorded, Keeps, Left}
 use Rattle.marks.specs.declared.Marks.{Marks}
@@ -92,12 +98,6 @@ scoredBy xs n a = record { assignment = a; score = getD xs n nan }
 abbrev pub keptWith : SearchBudget → Kept Evaluated → Evaluated → Kept Evaluated
 keptWith b k e = keepOne scoreOf sameEvaluated (b .«max_optima») (b .«tie_width») k e
 
--- ---- seeding
-
--- a walk that has evaluated the natives of the first n families
-abbrev pub seedWalk : ℕ → Walk
-seedWalk n = record { work = n; evaluations = n; natives = n; donors = 0; families = 0; stack = []; out = [] }
-
 -- ---- one evaluation
 
 -- 14 or 15 of the evaluation after n others, or 0
@@ -161,7 +161,7 @@ pub record Told (p : Panel) (b : SearchBudget) (v : ℕ) (xs : List Float) (fram
   pub keeps : Keeps v (b .«max_optima») kept (r .account .held) ks ss
   pub outcome : search p b xs
       ≡ record { ending = endingOf (r .stop) (frameOf frames (r .at .depth) .place); state = record { tally = tallied (r .at .tally) (r .account .counted); stack = stackOf frames (r .at .depth); kept = kept } }
-  pub linked : Linked frames (usedBy (r .stop) (r .at .depth))
+  pub words : take (usedBy (r .stop) (r .at .depth) * frameWidth) frames ≡ stackWords (stackOf frames (r .at .depth)) ++ pendingWords (endingOf (r .stop) (frameOf frames (r .at .depth) .place))
   pub deep : r .at .depth ≤ b .«max_frontier»
 
 pub record Ended (p : Panel) (b : SearchBudget) (v : ℕ) (xs : List Float) (fs ks : List ℕ) (ss : List Float) (fs′ ks′ : List ℕ) (ss′ : List Float) (r : Found) : Type 0 where
@@ -169,6 +169,14 @@ pub record Ended (p : Panel) (b : SearchBudget) (v : ℕ) (xs : List Float) (fs 
   pub told : r .refusal .number ≡ 0 → Told p b v xs fs′ ks′ ss′ r
   pub left : Left v (b .«max_optima») ks ss ks′ ss′
   pub frames : Room b fs fs′
+
+-- the counters after seeding
+abbrev pub seedTally : ℕ → Tally
+seedTally n = record { work = n; evaluations = n; natives = n; donors = 0; «non_native» = 0; mixed = 0; «mixed_identity» = 0; switches = 0; families = 0 }
+
+-- a walk over the first family's root, or over no frame
+abbrev pub standingWith : ℕ → ℕ → Standing
+standingWith n d = record { tally = seedTally n; depth = d; start = 0; clear = true }
 
 -- seeding ended: refused, or with so many natives evaluated, and no other is to come
 pub record Sown (p : Panel) (h : Header) (b : SearchBudget) (v : ℕ) (xs : List Float) (ks : List ℕ) (ss : List Float) (ks′ : List ℕ) (ss′ : List Float) (r : Seeded) : Type 0 where
@@ -179,10 +187,57 @@ pub record Sown (p : Panel) (h : Header) (b : SearchBudget) (v : ℕ) (xs : List
   pub worked : r .natives ≤ b .«max_work»
   pub left : Left v (b .«max_optima») ks ss ks′ ss′
 
+-- the frame room is as long as a walk needs
+pub record Framable (b : SearchBudget) (fs : List ℕ) : Type 0 where
+  pub some : 0 < b .«max_frontier»
+  pub few : b .«max_frontier» ≤ 1024
+  pub room : (b .«max_frontier» + 1) * frameWidth ≤ length fs
+
+-- the kept rooms are as long as a search needs, whose slots have v words
+pub record Lent (b : SearchBudget) (v : ℕ) (ks : List ℕ) (ss : List Float) : Type 0 where
+  pub room : b .«max_optima» * v + v + v ≤ length ks
+  pub scores : b .«max_optima» < length ss
+
 -- ---- the answer
 
-abbrev pub pendingAt : Stop → Bool
-pendingAt Exhausted = false
-pendingAt Work = false
-pendingAt Evaluation = false
-pendingAt Frontier = true
+-- the answer of a search that was not refused, as it was found
+abbrev pub repliedAs : Found → SearchReply
+repliedAs r =
+    record {
+      refusal = 0;
+      place = 0;
+      status = statusNumber (statusOf (r .stop) (r .account .held .discarded));
+      work = r .at .tally .work;
+      evaluations = r .at .tally .evaluations;
+      natives = r .at .tally .natives;
+      donors = r .at .tally .donors;
+      «non_native» = r .account .counted .«non_native»;
+      mixed = r .account .counted .mixed;
+      «mixed_identity» = r .account .counted .«mixed_identity»;
+      switches = r .account .counted .switches;
+      families = r .at .tally .families;
+      optima = r .account .held .count;
+      discarded = bit (r .account .held .discarded);
+      frames = r .at .depth;
+      pending = bit (pendingAt (r .stop));
+    }
+
+-- the answer and the rooms at exit, where panel, budget and rooms were not refused
+unfoldable pub answerIn : Panel → SearchBudget → List Float → SearchReply
+answerIn p b xs = pick (eqb (evaluationRefusal p b xs fresh .number) 0) (replyOf (search p b xs)) (refusedSearch (evaluationRefusal p b xs fresh))
+
+unfoldable pub roomsIn : Panel → SearchBudget → List Float → Rooms → Rooms
+roomsIn p b xs rooms = roomsAfter p b (evaluationRefusal p b xs fresh .number) (search p b xs) rooms
+
+-- 11, 12, 13, then 14 and 15: what the panel does not refuse
+unfoldable pub refusalOn : Panel → SearchBudget → List Float → Rooms → Refusal
+refusalOn p b xs rooms =
+    at (budgetRefusal b) 0
+    (at (roomsRefusal p b (length (rooms .frames)) (length (rooms .kept)) (length (rooms .scores))) 0
+    (evaluationRefusal p b xs fresh))
+
+unfoldable pub answerOn : Panel → SearchBudget → List Float → Rooms → SearchReply
+answerOn p b xs rooms = pick (eqb (refusalOn p b xs rooms .number) 0) (replyOf (search p b xs)) (refusedSearch (refusalOn p b xs rooms))
+
+unfoldable pub roomsOn : Panel → SearchBudget → List Float → Rooms → Rooms
+roomsOn p b xs rooms = roomsAfter p b (refusalOn p b xs rooms .number) (search p b xs) rooms

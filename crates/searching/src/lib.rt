@@ -7,14 +7,13 @@ ghost use Rattle.image.specs.Inner.{Framed, Groups, Started};
 ghost use Rattle.image.specs.Panel.{panelOf};
 ghost use Rattle.panel.specs.Inner.{Accepted};
 ghost use Rattle.evaluate.specs.Segments.{nativeOf};
-ghost use Rattle.evaluate.specs.Words.{encode};
-ghost use Rattle.search.specs.Rooms.{frameWidth};
+ghost use Rattle.evaluate.specs.Words.{bit, encode};
+ghost use Rattle.search.specs.Rooms.{frameWidth, slotWidth};
 ghost use Rattle.search.specs.Run.{walk};
-ghost use Rattle.search.specs.Counters.{statusOf, statusNumber};
-ghost use Rattle.search.specs.Answers.{refusedSearch};
-ghost use Rattle.kept.specs.Inner.{Tidy, Ready};
+ghost use Rattle.search.specs.Answers.{Rooms, refusedSearch, searchAnswer, searchRooms};
+ghost use Rattle.kept.specs.Inner.{Tidy, Ready, noHolding};
 ghost use Rattle.walks.specs.Inner.{assigned, toGo, Walking};
-ghost use Rattle.searching.specs.Inner.{pendingAt, scoreRefusal, markedWith, Few, Marked, Settled, Entered, Onward, Ended, Sown};
+ghost use Rattle.searching.specs.Inner.{scoreRefusal, markedWith, Few, Marked, Settled, Entered, Onward, Ended, Sown, standingWith, Framable, Lent, noneCounted, repliedAs, answerIn, roomsIn, answerOn, roomsOn};
 use evaluate::Segment;
 use search::SearchBudget;
 use search::Stop;
@@ -337,30 +336,94 @@ fn seed(
     }
 }
 
+// Where a walk stands after seeding, with so many frames of the first family.
+fn standing(natives: u64, depth: usize) -> Standing
+    ensures { λ r. ⌜ r ≡ standingWith natives depth ⌝ }
+{
+    Standing {
+        tally: search::Tally {
+            work: natives,
+            evaluations: natives,
+            natives,
+            donors: 0,
+            non_native: 0,
+            mixed: 0,
+            mixed_identity: 0,
+            switches: 0,
+            families: 0,
+        },
+        depth,
+        start: 0,
+        clear: true,
+    }
+}
+
+// A search that ends with its seeding.
+fn ended_early(refusal: evaluate::Refusal, stop: Stop, natives: u64, account: Account) -> Found
+    ensures { λ r. ⌜ r ≡ record { refusal = refusal; stop = stop; at = standingWith natives 0; account = account } ⌝ }
+{
+    Found {
+        refusal,
+        stop,
+        at: standing(natives, 0),
+        account,
+    }
+}
+
+// Seeding, then the walk over all families.
+fn search_families(
+    image: &[u8],
+    h: image::Header,
+    starts: &[usize; 4096],
+    b: SearchBudget,
+    v: usize,
+    scores: &[f64],
+    frames: &mut [u64],
+    kept: &mut [u64],
+    kept_scores: &mut [f64],
+    first: Account,
+) -> Found
+    requires { ⌜ Accepted (now image) h × Started (now image) h (now starts) ⌝ }
+    requires { ⌜ Framable b (now frames) ⌝ }
+    requires { ⌜ Onward (panelOf (now image)) b v (now scores) (walk (panelOf (now image)) b) first (now kept) (now «kept_scores») ⌝ }
+    ensures { λ r. ⌜ Ended (panelOf (now (image .entry))) b v (now (scores .entry)) (now (frames .entry)) (now (kept .entry)) (now («kept_scores» .entry)) (now (frames .exit)) (now (kept .exit)) (now («kept_scores» .exit)) r ⌝ }
+{
+    let s = seed(image, h, b, v, scores, kept, kept_scores, first);
+    let n = s.natives as u64;
+    let none = evaluate::Refusal {
+        number: 0,
+        place: 0,
+    };
+    if 0 < s.refusal.number {
+        return ended_early(s.refusal, Stop::Exhausted, n, s.account);
+    }
+    if s.natives < h.families {
+        if n >= b.max_evaluations {
+            return ended_early(none, Stop::Evaluation, n, s.account);
+        }
+        return ended_early(none, Stop::Work, n, s.account);
+    }
+    if h.families == 0 {
+        return ended_early(none, Stop::Exhausted, n, s.account);
+    }
+    walks::put_root(image, h, starts, frames, 0, 0);
+    let at = standing(n, 1);
+    run(
+        image,
+        h,
+        starts,
+        b,
+        v,
+        scores,
+        frames,
+        kept,
+        kept_scores,
+        at,
+        s.account,
+    )
+}
+
 // ---- the answer
-
-// Whether a child is pending where this stopped the walk.
-fn is_pending(s: Stop) -> bool
-    ensures { λ r. ⌜ r ≡ pendingAt s ⌝ }
-{
-    match s {
-        Stop::Exhausted => false,
-        Stop::Work => false,
-        Stop::Evaluation => false,
-        Stop::Frontier => true,
-    }
-}
-
-fn status_number(s: Stop, discarded: bool) -> u64
-    ensures { λ r. ⌜ r ≡ statusNumber (statusOf s discarded) ⌝ }
-{
-    match s {
-        Stop::Exhausted => { if discarded { 2 } else { 1 } }
-        Stop::Work => 3,
-        Stop::Evaluation => 4,
-        Stop::Frontier => 5,
-    }
-}
 
 fn refused(number: u64, place: u64) -> search::SearchReply
     ensures { λ r. ⌜ r ≡ refusedSearch (record { number = number; place = place }) ⌝ }
@@ -382,5 +445,148 @@ fn refused(number: u64, place: u64) -> search::SearchReply
         discarded: 0,
         frames: 0,
         pending: 0,
+    }
+}
+
+fn bit_of(t: bool) -> u64
+    ensures { λ r. ⌜ r ≡ bit t ⌝ }
+{
+    if t { 1 } else { 0 }
+}
+
+// The answer of a search that was not refused.
+fn reply(f: Found) -> search::SearchReply
+    ensures { λ r. ⌜ r ≡ repliedAs f ⌝ }
+{
+    let t = f.at.tally;
+    let c = f.account.counted;
+    let held = f.account.held;
+    let stop = f.stop;
+    let status = walks::status_number(stop, held.discarded);
+    let discarded = bit_of(held.discarded);
+    let waiting = walks::is_pending(stop);
+    let pending = bit_of(waiting);
+    search::SearchReply {
+        refusal: 0,
+        place: 0,
+        status,
+        work: t.work,
+        evaluations: t.evaluations,
+        natives: t.natives,
+        donors: t.donors,
+        non_native: c.non_native,
+        mixed: c.mixed,
+        mixed_identity: c.mixed_identity,
+        switches: c.switches,
+        families: t.families,
+        optima: held.count as u64,
+        discarded,
+        frames: f.at.depth as u64,
+        pending,
+    }
+}
+
+fn none_yet() -> Account
+    ensures { λ r. ⌜ r ≡ record { counted = noneCounted; held = noHolding } ⌝ }
+{
+    Account {
+        counted: Counted {
+            evaluations: 0,
+            non_native: 0,
+            mixed: 0,
+            mixed_identity: 0,
+            switches: 0,
+        },
+        held: kept::Holding {
+            has: false,
+            count: 0,
+            discarded: false,
+        },
+    }
+}
+
+// The search in rooms that are long enough; on 14 and 15 they end zero.
+fn search_in(
+    image: &[u8],
+    h: image::Header,
+    b: SearchBudget,
+    v: usize,
+    scores: &[f64],
+    frames: &mut [u64],
+    kept: &mut [u64],
+    kept_scores: &mut [f64],
+) -> search::SearchReply
+    requires { ⌜ Accepted (now image) h × (v ≡ slotWidth (panelOf (now image)) b) × Framable b (now frames) × Lent b v (now kept) (now «kept_scores») ⌝ }
+    ensures { λ r. ⌜ r ≡ answerIn (panelOf (now (image .entry))) b (now (scores .entry)) ⌝ }
+    ensures { λ r. ⌜ _≡_ {A = Rooms} (record { frames = now (frames .exit); kept = now (kept .exit); scores = now («kept_scores» .exit) }) (roomsIn (panelOf (now (image .entry))) b (now (scores .entry)) (record { frames = now (frames .entry); kept = now (kept .entry); scores = now («kept_scores» .entry) })) ⌝ }
+{
+    let optima = b.max_optima as usize;
+    let starts = image::lane_starts(image, h);
+    kept::begin(kept, kept_scores, optima, v);
+    let first = none_yet();
+    let f = search_families(
+        image,
+        h,
+        &starts,
+        b,
+        v,
+        scores,
+        frames,
+        kept,
+        kept_scores,
+        first,
+    );
+    if 0 < f.refusal.number {
+        walks::leave_frames(b, frames, Stop::Exhausted, 0);
+        kept::begin(kept, kept_scores, optima, v);
+        return refused(f.refusal.number, f.refusal.place);
+    }
+    let stop = f.stop;
+    let depth = f.at.depth;
+    walks::leave_frames(b, frames, stop, depth);
+    reply(f)
+}
+
+// The search of a panel that was accepted: 11, 12, 13, then 14 and 15.
+fn search_panel(
+    image: &[u8],
+    h: image::Header,
+    b: SearchBudget,
+    scores: &[f64],
+    frames: &mut [u64],
+    kept: &mut [u64],
+    kept_scores: &mut [f64],
+) -> search::SearchReply
+    requires { ⌜ Accepted (now image) h ⌝ }
+    ensures { λ r. ⌜ r ≡ answerOn (panelOf (now (image .entry))) b (now (scores .entry)) (record { frames = now (frames .entry); kept = now (kept .entry); scores = now («kept_scores» .entry) }) ⌝ }
+    ensures { λ r. ⌜ _≡_ {A = Rooms} (record { frames = now (frames .exit); kept = now (kept .exit); scores = now («kept_scores» .exit) }) (roomsOn (panelOf (now (image .entry))) b (now (scores .entry)) (record { frames = now (frames .entry); kept = now (kept .entry); scores = now («kept_scores» .entry) })) ⌝ }
+{
+    let budgets = budget::budget_refusal(b);
+    if 0 < budgets {
+        return refused(budgets, 0);
+    }
+    let v = budget::slot_width(image, h, b);
+    let rooms = budget::rooms_refusal(b, v, frames.len(), kept.len(), kept_scores.len());
+    if 0 < rooms {
+        return refused(rooms, 0);
+    }
+    search_in(image, h, b, v, scores, frames, kept, kept_scores)
+}
+
+// The search: its answer and what it leaves in the lent rooms, for any bytes, budget, scores and rooms.
+pub fn search(
+    image: &[u8],
+    b: SearchBudget,
+    scores: &[f64],
+    frames: &mut [u64],
+    kept: &mut [u64],
+    kept_scores: &mut [f64],
+) -> search::SearchReply
+    ensures { λ r. ⌜ r ≡ searchAnswer (now (image .entry)) b (now (scores .entry)) (record { frames = now (frames .entry); kept = now (kept .entry); scores = now («kept_scores» .entry) }) ⌝ }
+    ensures { λ r. ⌜ _≡_ {A = Rooms} (record { frames = now (frames .exit); kept = now (kept .exit); scores = now («kept_scores» .exit) }) (searchRooms (now (image .entry)) b (now (scores .entry)) (record { frames = now (frames .entry); kept = now (kept .entry); scores = now («kept_scores» .entry) })) ⌝ }
+{
+    match graph::check_panel(image) {
+        image::Opened::Good(h) => search_panel(image, h, b, scores, frames, kept, kept_scores),
+        image::Opened::Refused(n) => refused(n, 0),
     }
 }

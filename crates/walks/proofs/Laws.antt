@@ -6,9 +6,10 @@ use native.Mathlib.Omega.{arith}
 use mathlib.Core.Path.{_≡_, refl, sym, ap, ap₂, _∙_}
 use mathlib.Core.Bool.{Bool, true, false, not, _&&_}
 use mathlib.Core.Logic.{_⊎_, inl, inr}
-use mathlib.Core.List.{List, [], _∷_, _++_}
+use mathlib.Core.List.{List, [], _∷_, _++_, append-nil, append-assoc}
 use lib.Dec.{leb, ltb, eqb}
-use lib.ListN.{length, take, drop, getD}
+use lib.ListN.{length, take, drop, getD, replicate, length-append, length-replicate}
+use lib.Seq.{length-take-le}
 use borrow.Author.Tests.{le-leb, lt-leb, lt-ltb, le-ltb}
 use Rattle.ground.specs.Lists.{pick, sum}
 use Rattle.image.specs.declared.Header.{Header}
@@ -19,6 +20,7 @@ use Rattle.image.specs.Panel.{Panel, panelOf, pathsAt}
 use Rattle.panel.specs.Inner.{Accepted}
 use Rattle.evaluate.specs.declared.Segment.{Segment}
 use Rattle.evaluate.specs.Segments.{Assignment}
+use Rattle.evaluate.specs.Check.{over}
 use Rattle.image.proofs.Laws.{panel-families, families-length, path-counts-length}
 use Rattle.search.specs.declared.SearchBudget.{SearchBudget}
 use Rattle.search.specs.declared.Tally.{Tally}
@@ -26,10 +28,10 @@ use Rattle.search.specs.declared.Stop.{Stop}
 use Rattle.search.specs.declared.Stop.the-variants.{Exhausted, Work, Evaluation, Frontier}
 use Rattle.search.specs.Walk.{Place, Frame, Doing, pass, down, give, Act, leave, doing, enter, unitOf, takesMember}
 use Rattle.search.specs.Run.{Walk, Walked, Phase, going, ended, Ending, exhausted, onWork, onEvaluation, onFrontier, limitsOf, root, stacked, begin, spend, handed, doneWith, left, afterAct, run}
-use Rattle.search.specs.Rooms.{frameWidth}
+use Rattle.search.specs.Rooms.{frameWidth, placeWords, frameWords, stackWords, pendingWords, framesLeft}
 use Rattle.frames.specs.declared.Stored.{Stored}
 use Rattle.frames.specs.Inner.{Path, noPath, noSegment, longer, pathTo, pathAt, storedAt, placeWith, frameWith, put, frameOf, stackOf, Linked, Alike}
-use Rattle.frames.proofs.Laws.{length-put, drop-put, stored-same, stored-below, path-at, stack-none, stack-top, stack-above, stack-retop, stack-root, stack-push, length-stack, frame-below, frame-push, frame-retop, frame-root, alike-below, alike-path, linked-less, linked-root, linked-push, linked-retop}
+use Rattle.frames.proofs.Laws.{length-put, drop-put, stored-same, stored-below, path-at, stack-none, stack-top, stack-above, stack-retop, stack-root, stack-push, length-stack, frame-below, frame-push, frame-retop, frame-root, alike-below, alike-path, linked-less, linked-root, linked-push, linked-retop, stack-suc, take-words}
 use Rattle.landings.specs.declared.Landing.{Landing}
 use Rattle.advance.specs.declared.Action.{Action}
 use Rattle.advance.specs.declared.Action.the-variants.{Leave, Pass, Down, Give}
@@ -40,7 +42,7 @@ use Rattle.walks.specs.declared.Standing.{Standing}
 use Rattle.walks.specs.declared.Halt.{Halt}
 use Rattle.walks.specs.declared.Halt.the-variants.{Stopped, Due}
 use Rattle.walks.specs.declared.Pause.{Pause}
-use Rattle.walks.specs.Inner.{spentOf, handedOf, doneOf, walkOf, gone, toGo, handing, before, endingOf, assigned, haltedAs, rootOf, Held, Walking, Kept, usedBy, Paused}
+use Rattle.walks.specs.Inner.{spentOf, handedOf, doneOf, walkOf, gone, toGo, handing, before, endingOf, assigned, haltedAs, rootOf, Held, Walking, Kept, usedBy, Paused, zeroed}
 use Rattle.walks.proofs.Steps.{run-after, run-ended, to-go-some, to-go-work, to-go-evaluation, to-go-act}
 
 -- ---- the room
@@ -357,29 +359,47 @@ module _ (s : List ℕ) (h : Header) (b : SearchBudget) (family : Family) (start
 not-due : {A : Type 0} (e : Stop) (p : Segment) → Stopped e ≡ Due p → A
 not-due e p q = let z : _≡_ {A = ℕ} 0 1 = cc in absurd (omega arith)
 
-linked-stop : (xs : List ℕ) (d : ℕ) (e f : Stop) → Linked xs (usedBy e d) → Stopped e ≡ Stopped f → Linked xs (usedBy f d)
-linked-stop xs d e f k q = let z : f ≡ e = cc in rw z k
+-- the words of the stack, and of the child that is pending, where this stopped the walk
+abbrev WordsOf : List ℕ → ℕ → Stop → Type 0
+WordsOf xs d e = take (usedBy e d * frameWidth) xs ≡ stackWords (stackOf xs d) ++ pendingWords (endingOf e (frameOf xs d .place))
+
+words-stop : (xs : List ℕ) (d : ℕ) (e f : Stop) → WordsOf xs d e → Stopped e ≡ Stopped f → WordsOf xs d f
+words-stop xs d e f k q = let z : f ≡ e = cc in rw z k
+
+words-here : (xs : List ℕ) (d : ℕ) (e : Stop) → Linked xs d → d * frameWidth ≤ length xs → usedBy e d ≡ d → pendingWords (endingOf e (frameOf xs d .place)) ≡ [] → WordsOf xs d e
+words-here xs d e k r used none = rw (used, none, append-nil (stackWords (stackOf xs d))) (take-words xs d k r)
+
+pending-as : (f : Frame) → f .terminal ≡ true → f .next ≡ 0 → f .hubNext ≡ 0 → f .hubEnd ≡ 0 → frameWords f ≡ placeWords (f .place) true 0 0 0
+pending-as f t n l h = rw (t, n, l, h)
+
+words-pending : (xs : List ℕ) (d : ℕ) → Linked xs (d + 1) → (d + 1) * frameWidth ≤ length xs → frameOf xs d .terminal ≡ true → frameOf xs d .next ≡ 0 → frameOf xs d .hubNext ≡ 0 → frameOf xs d .hubEnd ≡ 0
+    → WordsOf xs d Frontier
+unfolding stackWords
+words-pending xs d k r t n l h = take-words xs (d + 1) k r ∙ stack-more
+  where
+    stack-more : stackWords (stackOf xs (d + 1)) ≡ stackWords (stackOf xs d) ++ placeWords (frameOf xs d .place) true 0 0 0
+    stack-more = rw (add-one, stack-suc xs d) (ap (λ (ws : List ℕ). stackWords (stackOf xs d) ++ ws) (pending-as (frameOf xs d) t n l h))
 
 module _ (s : List ℕ) (h : Header) (b : SearchBudget) (family : Family) (start : ℕ) (xs₀ : List ℕ) (t₀ : Tally) (d₀ : ℕ) (xs : List ℕ) (t : Tally) (d : ℕ) (flag : Bool) (zs : List ℕ) (from : Standing) (flag₀ : Bool)
     (o : Outer s h b zs (from .tally) (from .depth) xs₀ t₀ d₀ start flag₀) (g : Going s h b family start xs₀ t₀ d₀ xs t d flag) where
-  stop-here : (e : Stop) → usedBy e d ≡ d → toGo (panelOf s) b t xs d ≡ record { ending = endingOf e (frameOf xs d .place); walk = walkOf t (stackOf xs d) }
+  stop-here : (e : Stop) → usedBy e d ≡ d → pendingWords (endingOf e (frameOf xs d .place)) ≡ [] → toGo (panelOf s) b t xs d ≡ record { ending = endingOf e (frameOf xs d .place); walk = walkOf t (stackOf xs d) }
       → Paused s h b zs xs from (record { halt = Stopped e; at = record { tally = t; depth = d; start = start; clear = flag } })
-  stop-here e used q =
+  stop-here e used none q =
       record {
         outcome = o .total ∙ g .total ∙ q;
         kept = kept-on (o .kept) (g .kept);
         again = λ p z. not-due e p z;
         more = λ p z. not-due e p z;
-        linked = λ f z. linked-stop xs d e f (rw used (g .held .linked)) z;
+        words = λ f z. words-stop xs d e f (words-here xs d e (g .held .linked) (let r = g .held .room in let l = g .held .deep in omega arith) used none) z;
         deep = g .held .deep;
       }
 
   pub by-work : (d ≡ 0 → ⊥) → b .«max_work» ≤ t .work → Paused s h b zs xs from (record { halt = Stopped Work; at = record { tally = t; depth = d; start = start; clear = flag } })
-  by-work n l = stop-here Work refl (to-go-work (panelOf s) b t xs d (omega arith) l)
+  by-work n l = stop-here Work refl refl (to-go-work (panelOf s) b t xs d (omega arith) l)
 
   pub by-evaluation : (d ≡ 0 → ⊥) → t .work < b .«max_work» → b .«max_evaluations» ≤ t .evaluations
       → Paused s h b zs xs from (record { halt = Stopped Evaluation; at = record { tally = t; depth = d; start = start; clear = flag } })
-  by-evaluation n lw l = stop-here Evaluation refl (to-go-evaluation (panelOf s) b t xs d (omega arith) lw l)
+  by-evaluation n lw l = stop-here Evaluation refl refl (to-go-evaluation (panelOf s) b t xs d (omega arith) lw l)
 
   module _ (ys : List ℕ) (u : Tally) (turn : Turn) (n : d ≡ 0 → ⊥) (lw : t .work < b .«max_work») (le : t .evaluations < b .«max_evaluations») (m : Moved s h family xs ys (d - 1) turn) (eu : u ≡ spentOf t (turn .taken))
       (acc : Accepted s h) where
@@ -393,10 +413,12 @@ module _ (s : List ℕ) (h : Header) (b : SearchBudget) (family : Family) (start
       room-one : (d - 1 + 2) * frameWidth ≤ length ys
       room-one = let r = then-held .room in let e = then-held .deep in omega arith
 
+      pending-frame : frameOf vs d ≡ frameWith (pathTo (pathAt ys (d - 1)) (storedAt ys (d - 1)) c) c
+      pending-frame = ap (λ (l : List ℕ). frameOf l d) ev ∙ (rw back-one at (frame-push ys (d - 1) c room-one))
+
       pending-place : frameOf vs d .place ≡ placeWith (pathTo (pathAt xs (d - 1)) (storedAt xs (d - 1)) c) c
       pending-place =
-          let q : frameOf (put ys d c) d ≡ frameWith (pathTo (pathAt ys (d - 1)) (storedAt ys (d - 1)) c) c = rw back-one at (frame-push ys (d - 1) c room-one) in
-          ap (λ (l : List ℕ). frameOf l d .place) ev ∙ ap (λ (f : Frame). f .place) q
+          ap (λ (f : Frame). f .place) pending-frame
           ∙ ap (λ (a : Path). placeWith a c) (path-down s h b family start xs₀ t₀ d₀ xs t d flag ys u turn g n lw le m eu acc c ea c (record { slot = refl; source = refl; reverse = refl; start = refl; end = refl }))
 
       stack-full : stackOf vs d ≡ frameWith (pathAt xs (d - 1)) (turn .frame) ∷ stackOf xs (d - 1)
@@ -404,6 +426,15 @@ module _ (s : List ℕ) (h : Header) (b : SearchBudget) (family : Family) (start
 
       is-full : leb (b .«max_frontier») (suc (length (stackOf xs (d - 1)))) ≡ true
       is-full = rw (length-stack xs (d - 1)) (le-leb (b .«max_frontier») (suc (d - 1)) (omega arith))
+
+      pending-linked : Linked vs (d + 1)
+      pending-linked = rw ev (rw back-one at (linked-push ys (d - 1) c room-one (rw (← back-one) at (then-held .linked))))
+
+      pending-words : WordsOf vs d Frontier
+      pending-words =
+          let k = m .turned .child c ea in
+          words-pending vs d pending-linked (let e = length-put ys d c in rw ev (omega (arith, room-one))) (ap (λ (f : Frame). f .terminal) pending-frame ∙ k .waiting) (ap (λ (f : Frame). f .next) pending-frame ∙ k .noNext)
+          (ap (λ (f : Frame). f .hubNext) pending-frame ∙ k .noHub) (ap (λ (f : Frame). f .hubEnd) pending-frame ∙ k .closed)
 
       pub by-frontier : Paused s h b zs vs from (record { halt = Stopped Frontier; at = record { tally = u; depth = d; start = start; clear = turn .clear } })
       by-frontier =
@@ -418,7 +449,7 @@ module _ (s : List ℕ) (h : Header) (b : SearchBudget) (family : Family) (start
                 (kept-on (o .kept) (kept-on (kept-then s h b family start xs₀ t₀ d₀ xs t d flag ys u turn g n lw le m eu acc) (kept-put b ys d c (then-held .deep))));
             again = λ p z. not-due Frontier p z;
             more = λ p z. not-due Frontier p z;
-            linked = λ f z. linked-stop vs d Frontier f (rw ev (rw back-one at (linked-push ys (d - 1) c room-one (rw (← back-one) at (then-held .linked))))) z;
+            words = λ f z. words-stop vs d Frontier f pending-words z;
             deep = then-held .deep;
           }
 
@@ -465,7 +496,7 @@ module _ (s : List ℕ) (h : Header) (b : SearchBudget) (family : Family) (start
                   begins = rw due-families (g .begins);
                 };
             more = λ q z. (let a = o .more in let c = g .more in rw (ev, eu) (omega arith));
-            linked = λ f z. (let y : _≡_ {A = ℕ} 0 1 = cc in absurd (omega arith));
+            words = λ f z. (let y : _≡_ {A = ℕ} 0 1 = cc in absurd (omega arith));
             deep = then-held .deep;
           }
 
@@ -492,6 +523,70 @@ module _ (s : List ℕ) (h : Header) (family : Family) (acc : Accepted s h) (gs 
   pub root-told : (lane : ℕ) (f : Stored) (xs ys : List ℕ) (n : ℕ) → family .number ≡ n → lane ≡ getD (pathsOf h s (family .number)) 0 0
       → f ≡ entered (panelOf s) (record { slot = 0; source = lane; cut = 0; reverse = false; terminal = true; next = 0; «hub_next» = 0; «hub_end» = 0; start = 0; end = 0 }) → ys ≡ put xs 0 f → ys ≡ put xs 0 (rootOf (panelOf s) n)
   root-told lane f xs ys n en el ef ey = ey ∙ rw (ef, el, ← en, paths-are s h (family .number) (acc .counted .framed))
+
+-- a family begun: its root alone is on the stack
+module _ (s : List ℕ) (h : Header) (b : SearchBudget) (xs : List ℕ) (t : Tally) (start : ℕ) (acc : Accepted s h) (lt : t .families < h .families) (begins : start ≡ sum (take (t .families) (pathCounts h s)))
+    (some : 0 < b .«max_frontier») (small : b .«max_frontier» ≤ 1024) (room : (b .«max_frontier» + 1) * frameWidth ≤ length xs) (worked : t .work ≤ b .«max_work») (taken : t .donors ≤ t .work) (ws : List ℕ)
+    (ew : ws ≡ put xs 0 (rootOf (panelOf s) (t .families))) where
+  groups-root : Groups s h (record { number = t .families; start = start; count = getD (pathCounts h s) (t .families) 0 })
+  groups-root = record { grouped = acc .grouped; family = lt; count = refl; start = begins }
+
+  child-root : Child s h (getD (pathCounts h s) (t .families) 0) (childOf 0 (record { source = getD (pathsAt (panelOf s) (t .families)) 0 0; cut = 0; reverse = false }) noSegment)
+  child-root = root-child s h (record { number = t .families; start = start; count = getD (pathCounts h s) (t .families) 0 }) acc groups-root
+
+  room-root : frameWidth ≤ length xs
+  room-root = omega (arith, room)
+
+  stack-begun : stackOf ws 1 ≡ root (panelOf s) (t .families) ∷ []
+  stack-begun =
+      ap (λ (l : List ℕ). stackOf l 1) ew ∙ stack-root xs (rootOf (panelOf s) (t .families)) room-root
+      ∙ ap (λ (f : Frame). f ∷ []) (enter-child s h (getD (pathCounts h s) (t .families) 0) (panelOf s) noPath _ child-root)
+
+  pub begun-to-go : toGo (panelOf s) b t ws 1 ≡ run (panelOf s) b (b .«max_work» - t .work) (going (walkOf t (root (panelOf s) (t .families) ∷ [])))
+  begun-to-go = to-go-some (panelOf s) b t ws 1 (omega arith) ∙ ap (λ (st : List Frame). run (panelOf s) b (b .«max_work» - t .work) (going (walkOf t st))) stack-begun
+
+  pub begun-kept : Kept b xs ws
+  begun-kept = rw ew (kept-put b xs 0 (rootOf (panelOf s) (t .families)) (omega arith))
+
+  pub begun-walking : Walking s h b ws t 1 start true
+  begun-walking =
+      record {
+        held =
+            record {
+              deep = omega (arith, some);
+              small = small;
+              room = let e = length-put xs 0 (rootOf (panelOf s) (t .families)) in rw ew (omega (arith, room));
+              sound = λ i l. sound-root i (omega arith);
+              slots = λ i l. slots-root i (omega arith);
+              settled = λ i l. absurd (omega arith);
+              flagged = λ l. flag-root;
+              linked = rw ew (linked-root xs (rootOf (panelOf s) (t .families)) room-root root-start root-end);
+              worked = worked;
+              taken = taken;
+            };
+        some = omega arith;
+        left = lt;
+        begins = begins;
+      }
+    where
+      sound-root : (i : ℕ) → i ≡ 0 → Sound s h (getD (pathCounts h s) (t .families) 0) (storedAt ws i)
+      sound-root i e = rw (e, ew, stored-same xs 0 (rootOf (panelOf s) (t .families)) room-root) (enter-sound s h (getD (pathCounts h s) (t .families) 0) _ acc child-root)
+
+      slots-root : (i : ℕ) → i ≡ 0 → length (frameOf ws i .place .routes) ≡ frameOf ws i .place .slot
+      slots-root i e =
+          rw (e, ew, frame-root xs (rootOf (panelOf s) (t .families)) room-root)
+          (sym (enter-alike (panelOf s) (childOf 0 (record { source = getD (pathsAt (panelOf s) (t .families)) 0 0; cut = 0; reverse = false }) noSegment) .slot))
+
+      flag-root : Flagged (panelOf s) (frameOf ws (1 - 1)) true
+      flag-root =
+          let z : 1 - 1 ≡ 0 = omega arith in
+          rw (z, ew, frame-root xs (rootOf (panelOf s) (t .families)) room-root) (enter-shut (panelOf s) (panelOf s) noPath s h (getD (pathCounts h s) (t .families) 0) _ true child-root)
+
+      root-start : rootOf (panelOf s) (t .families) .start ≡ 0
+      root-start = enter-alike (panelOf s) (childOf 0 (record { source = getD (pathsAt (panelOf s) (t .families)) 0 0; cut = 0; reverse = false }) noSegment) .start
+
+      root-end : rootOf (panelOf s) (t .families) .end ≡ 0
+      root-end = enter-alike (panelOf s) (childOf 0 (record { source = getD (pathsAt (panelOf s) (t .families)) 0 0; cut = 0; reverse = false }) noSegment) .end
 
 to-go-none : (p : Panel) (b : SearchBudget) (t : Tally) (xs : List ℕ) (d : ℕ) → d ≡ 0 → toGo p b t xs d ≡ run p b (b .«max_work» - t .work) (begin p (doneWith (walkOf t [])))
 unfolding toGo
@@ -522,85 +617,35 @@ module _ (s : List ℕ) (h : Header) (b : SearchBudget) (family : Family) (start
         kept = kept-on (o .kept) (g .kept);
         again = λ p z. not-due Exhausted p z;
         more = λ p z. not-due Exhausted p z;
-        linked = λ f z. linked-stop xs d Exhausted f (g .held .linked) z;
+        words = λ f z. words-stop xs d Exhausted f (words-here xs d Exhausted (g .held .linked) (let r = g .held .room in let l = g .held .deep in omega arith) refl refl) z;
         deep = g .held .deep;
       }
 
   module _ (lt : v .families < h .families) (ws : List ℕ) (ew : ws ≡ put xs 0 (rootOf (panelOf s) (v .families))) where
-    family-next : Family
-    family-next = record { number = v .families; start = next; count = getD (pathCounts h s) (v .families) 0 }
+    begun-frontier : (zs : List ℕ) (tz : Tally) (dz : ℕ) (flag₀ : Bool) → Outer s h b zs tz dz xs₀ t₀ d₀ start flag₀ → 0 < b .«max_frontier»
+    begun-frontier zs tz dz flag₀ o = omega (arith, o .walking .held .deep, o .walking .some)
 
-    groups-next : Groups s h (record { number = v .families; start = next; count = getD (pathCounts h s) (v .families) 0 })
-    groups-next = record { grouped = acc .grouped; family = lt; count = refl; start = start-next }
-
-    child-next : Child s h (getD (pathCounts h s) (v .families) 0) (childOf 0 (record { source = getD (pathsAt (panelOf s) (v .families)) 0 0; cut = 0; reverse = false }) noSegment)
-    child-next = root-child s h (record { number = v .families; start = next; count = getD (pathCounts h s) (v .families) 0 }) acc groups-next
-
-    room-next : frameWidth ≤ length xs
-    room-next = let r = g .held .room in omega arith
-
-    stack-next : stackOf ws 1 ≡ root (panelOf s) (v .families) ∷ []
-    stack-next =
-        ap (λ (l : List ℕ). stackOf l 1) ew ∙ stack-root xs (rootOf (panelOf s) (v .families)) room-next
-        ∙ ap (λ (f : Frame). f ∷ []) (enter-child s h (getD (pathCounts h s) (v .families) 0) (panelOf s) noPath _ child-next)
-
-    total-next : toGo (panelOf s) b t xs d ≡ toGo (panelOf s) b v ws 1
-    total-next =
+    total-next : 0 < b .«max_frontier» → toGo (panelOf s) b t xs d ≡ toGo (panelOf s) b v ws 1
+    total-next f =
         let more : ltb (suc (t .families)) (length (panelOf s .families)) ≡ true = rw (families-are s h acc, suc-next) (lt-ltb (v .families) (h .families) lt) in
         let same : t .work ≡ v .work = rw ev in
         to-go-none (panelOf s) b t xs d none
         ∙ (rw more
         (ap (λ (w : Walk). run (panelOf s) b (b .«max_work» - t .work) (going w)) root-walk
-        ∙ (rw same (ap (λ (st : List Frame). run (panelOf s) b (b .«max_work» - v .work) (going (walkOf v st))) (sym stack-next) ∙ sym (to-go-some (panelOf s) b v ws 1 (omega arith))))))
+        ∙ (rw same (sym (begun-to-go s h b xs v next acc lt start-next f (g .held .small) (g .held .room) (rw ev (g .held .worked)) (rw ev (g .held .taken)) ws ew)))))
       where
         root-walk : stacked (doneWith (walkOf t [])) (root (panelOf s) (suc (t .families)) ∷ []) ≡ walkOf v (root (panelOf s) (v .families) ∷ [])
         root-walk = rw (ev, add-one)
 
     pub by-next : (zs : List ℕ) (tz : Tally) (dz : ℕ) (flag₀ : Bool) → Outer s h b zs tz dz xs₀ t₀ d₀ start flag₀ → Outer s h b zs tz dz ws v 1 next true
     by-next zs tz dz flag₀ o =
+        let f = begun-frontier zs tz dz flag₀ o in
         record {
-          total = o .total ∙ g .total ∙ total-next;
-          walking =
-              record {
-                held =
-                    record {
-                      deep = omega (arith, o .walking .held .deep, o .walking .some);
-                      small = g .held .small;
-                      room = let r = g .held .room in let e = length-put xs 0 (rootOf (panelOf s) (v .families)) in rw ew (omega arith);
-                      sound = λ i l. sound-root i (omega arith);
-                      slots = λ i l. slots-root i (omega arith);
-                      settled = λ i l. absurd (omega arith);
-                      flagged = λ l. flag-root;
-                      linked = rw ew (linked-root xs (rootOf (panelOf s) (v .families)) room-next root-start root-end);
-                      worked = rw ev (g .held .worked);
-                      taken = rw ev (g .held .taken);
-                    };
-                some = omega arith;
-                left = lt;
-                begins = start-next;
-              };
-          kept = rw ew (kept-on (o .kept) (kept-on (g .kept) (kept-put b xs 0 (rootOf (panelOf s) (v .families)) (omega arith))));
+          total = o .total ∙ g .total ∙ total-next f;
+          walking = begun-walking s h b xs v next acc lt start-next f (g .held .small) (g .held .room) (rw ev (g .held .worked)) (rw ev (g .held .taken)) ws ew;
+          kept = kept-on (o .kept) (kept-on (g .kept) (begun-kept s h b xs v next acc lt start-next f (g .held .small) (g .held .room) (rw ev (g .held .worked)) (rw ev (g .held .taken)) ws ew));
           more = (let a = o .more in let c = g .more in rw ev (omega arith));
         }
-      where
-        sound-root : (i : ℕ) → i ≡ 0 → Sound s h (getD (pathCounts h s) (v .families) 0) (storedAt ws i)
-        sound-root i e = rw (e, ew, stored-same xs 0 (rootOf (panelOf s) (v .families)) room-next) (enter-sound s h (getD (pathCounts h s) (v .families) 0) _ acc child-next)
-
-        slots-root : (i : ℕ) → i ≡ 0 → length (frameOf ws i .place .routes) ≡ frameOf ws i .place .slot
-        slots-root i e =
-            rw (e, ew, frame-root xs (rootOf (panelOf s) (v .families)) room-next)
-            (sym (enter-alike (panelOf s) (childOf 0 (record { source = getD (pathsAt (panelOf s) (v .families)) 0 0; cut = 0; reverse = false }) noSegment) .slot))
-
-        flag-root : Flagged (panelOf s) (frameOf ws (1 - 1)) true
-        flag-root =
-            let z : 1 - 1 ≡ 0 = omega arith in
-            rw (z, ew, frame-root xs (rootOf (panelOf s) (v .families)) room-next) (enter-shut (panelOf s) (panelOf s) noPath s h (getD (pathCounts h s) (v .families) 0) _ true child-next)
-
-        root-start : rootOf (panelOf s) (v .families) .start ≡ 0
-        root-start = enter-alike (panelOf s) (childOf 0 (record { source = getD (pathsAt (panelOf s) (v .families)) 0 0; cut = 0; reverse = false }) noSegment) .start
-
-        root-end : rootOf (panelOf s) (v .families) .end ≡ 0
-        root-end = enter-alike (panelOf s) (childOf 0 (record { source = getD (pathsAt (panelOf s) (v .families)) 0 0; cut = 0; reverse = false }) noSegment) .end
 
 -- ---- what the calls ask
 
@@ -619,3 +664,27 @@ module _ (s : List ℕ) (h : Header) (b : SearchBudget) (family : Family) (start
 
 pub evaluations-left : (b : SearchBudget) (t u : Tally) (k : ℕ) → u ≡ spentOf t k → t .evaluations < b .«max_evaluations» → u .evaluations < b .«max_evaluations»
 evaluations-left b t u k e l = rw e l
+
+-- ---- what a stopped walk leaves in the frame room
+
+pub used-few : (e : Stop) (d n : ℕ) → d ≤ n → usedBy e d ≤ n + 1
+used-few Exhausted d n h = omega arith
+used-few Work d n h = omega arith
+used-few Evaluation d n h = omega arith
+used-few Frontier d n h = omega arith
+
+pub used-frontier : (e : Stop) (d : ℕ) → e ≡ Frontier → d + 1 ≡ usedBy e d
+used-frontier e d q = rw q
+
+module _ (b : SearchBudget) (xs ys zs : List ℕ) (e : Stop) (d : ℕ) where
+  pub frames-left : Kept b xs ys → take (usedBy e d * frameWidth) ys ≡ stackWords (stackOf ys d) ++ pendingWords (endingOf e (frameOf ys d .place)) → d ≤ b .«max_frontier»
+      → (b .«max_frontier» + 1) * frameWidth ≤ length xs → zs ≡ zeroed (usedBy e d * frameWidth) ((b .«max_frontier» + 1) * frameWidth) ys → zs ≡ over (framesLeft b (endingOf e (frameOf ys d .place)) (stackOf ys d)) xs
+  unfolding framesLeft
+  frames-left k words deep room ez =
+      let few = used-few e d (b .«max_frontier») deep in
+      let same = k .long in
+      let used : length (take (usedBy e d * frameWidth) ys) ≡ usedBy e d * frameWidth = length-take-le (usedBy e d * frameWidth) ys (omega arith) in
+      let all : length (take (usedBy e d * frameWidth) ys ++ replicate ((b .«max_frontier» + 1) * frameWidth - usedBy e d * frameWidth) 0) ≡ (b .«max_frontier» + 1) * frameWidth =
+      length-append (take (usedBy e d * frameWidth) ys) (replicate ((b .«max_frontier» + 1) * frameWidth - usedBy e d * frameWidth) 0)
+      ∙ (let r = length-replicate {A = ℕ} ((b .«max_frontier» + 1) * frameWidth - usedBy e d * frameWidth) 0 in omega arith) in
+      ez ∙ rw (← words, used, all, append-assoc (take (usedBy e d * frameWidth) ys) (replicate ((b .«max_frontier» + 1) * frameWidth - usedBy e d * frameWidth) 0) (drop ((b .«max_frontier» + 1) * frameWidth) xs), ← k .rest)

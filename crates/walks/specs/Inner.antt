@@ -3,7 +3,7 @@ use Prim.Native.Nat.{ℕ, zero, suc, _+_, _-_, _*_, _≤_, _<_}
 use mathlib.Core.Path.{_≡_}
 use mathlib.Core.Bool.{Bool, true, false}
 use mathlib.Core.List.{List, [], _∷_, _++_}
-use lib.ListN.{length, take, drop, getD}
+use lib.ListN.{length, take, drop, getD, replicate}
 use Rattle.ground.specs.Lists.{sum}
 use Rattle.image.specs.declared.Header.{Header}
 use Rattle.image.specs.declared.Family.{Family}
@@ -55,6 +55,10 @@ gone p w (f ∷ rest) = going w
 -- what the walk comes to from here
 unfoldable pub toGo : Panel → SearchBudget → Tally → List ℕ → ℕ → Walked
 toGo p b t xs d = run p b (b .«max_work» - t .work) (gone p (walkOf t (stackOf xs d)) (stackOf xs d))
+
+-- a walk that has evaluated the natives of the first n families
+abbrev pub seedWalk : ℕ → Walk
+seedWalk n = record { work = n; evaluations = n; natives = n; donors = 0; families = 0; stack = []; out = [] }
 
 -- the same with an assignment handed over before
 abbrev pub handing : Assignment → Walk → Walk
@@ -122,5 +126,18 @@ pub record Paused (s : List ℕ) (h : Header) (b : SearchBudget) (xs ys : List �
   pub kept : Kept b xs ys
   pub again : (p : Segment) → r .halt ≡ Due p → Walking s h b ys (r .at .tally) (r .at .depth) (r .at .start) (r .at .clear)
   pub more : (p : Segment) → r .halt ≡ Due p → from .tally .work < r .at .tally .work
-  pub linked : (e : Stop) → r .halt ≡ Stopped e → Linked ys (usedBy e (r .at .depth))
+  pub words : (e : Stop) → r .halt ≡ Stopped e
+      → take (usedBy e (r .at .depth) * frameWidth) ys ≡ stackWords (stackOf ys (r .at .depth)) ++ pendingWords (endingOf e (frameOf ys (r .at .depth) .place))
   pub deep : r .at .depth ≤ b .«max_frontier»
+
+-- ---- a walk that stopped
+
+abbrev pub pendingAt : Stop → Bool
+pendingAt Exhausted = false
+pendingAt Work = false
+pendingAt Evaluation = false
+pendingAt Frontier = true
+
+-- a room with zeros from one place up to another
+abbrev pub zeroed : ℕ → ℕ → List ℕ → List ℕ
+zeroed from to xs = take from xs ++ (replicate (to - from) 0 ++ drop to xs)

@@ -1,6 +1,6 @@
 // The budgeted walk over all families (search.rs, search): it goes on until a budget stops it, all is walked, or an evaluation is due.
 ghost use mathlib.Core.Path.{_≡_};
-ghost use Prim.Native.Nat.{_≤_, _<_};
+ghost use Prim.Native.Nat.{_+_, _*_, _≤_, _<_};
 ghost use lib.ListN.{length, take};
 ghost use Rattle.ground.specs.Lists.{sum};
 ghost use Rattle.image.specs.Image.{pathCounts};
@@ -8,8 +8,9 @@ ghost use Rattle.image.specs.Inner.{Started};
 ghost use Rattle.image.specs.Panel.{panelOf};
 ghost use Rattle.panel.specs.Inner.{Accepted};
 ghost use Rattle.search.specs.Rooms.{frameWidth};
+ghost use Rattle.search.specs.Counters.{statusOf, statusNumber};
 ghost use Rattle.frames.specs.Inner.{put};
-ghost use Rattle.walks.specs.Inner.{rootOf, spentOf, handedOf, doneOf, Walking, Paused};
+ghost use Rattle.walks.specs.Inner.{rootOf, spentOf, handedOf, doneOf, Walking, Paused, pendingAt, usedBy, zeroed};
 use advance::Action;
 use evaluate::Segment;
 use frames::Stored;
@@ -174,4 +175,51 @@ pub fn go_on(
             clear,
         },
     }
+}
+
+// ---- a walk that stopped
+
+// Whether a child is pending where this stopped the walk.
+pub fn is_pending(s: Stop) -> bool
+    ensures { λ r. ⌜ r ≡ pendingAt s ⌝ }
+{
+    match s {
+        Stop::Exhausted => false,
+        Stop::Work => false,
+        Stop::Evaluation => false,
+        Stop::Frontier => true,
+    }
+}
+
+pub fn status_number(s: Stop, discarded: bool) -> u64
+    ensures { λ r. ⌜ r ≡ statusNumber (statusOf s discarded) ⌝ }
+{
+    match s {
+        Stop::Exhausted => { if discarded { 2 } else { 1 } }
+        Stop::Work => 3,
+        Stop::Evaluation => 4,
+        Stop::Frontier => 5,
+    }
+}
+
+fn frames_used(s: Stop, depth: usize) -> usize
+    requires { ⌜ depth ≤ 1024 ⌝ }
+    ensures { λ r. ⌜ (r ≡ usedBy s depth) × (r ≤ depth + 1) ⌝ }
+{
+    match s {
+        Stop::Exhausted => depth,
+        Stop::Work => depth,
+        Stop::Evaluation => depth,
+        Stop::Frontier => depth + 1,
+    }
+}
+
+// The frame room past the stack, and past a child that is pending, is zeroed.
+pub fn leave_frames(b: SearchBudget, frames: &mut [u64], stop: Stop, depth: usize)
+    requires { ⌜ (b .«max_frontier» ≤ 1024) × (depth ≤ b .«max_frontier») × ((b .«max_frontier» + 1) * frameWidth ≤ length (now frames)) ⌝ }
+    ensures { λ _. ⌜ now (frames .exit) ≡ zeroed (usedBy stop depth * frameWidth) ((b .«max_frontier» + 1) * frameWidth) (now (frames .entry)) ⌝ }
+{
+    let needed = (b.max_frontier as usize + 1) * Stored::WORDS;
+    let used = frames_used(stop, depth) * Stored::WORDS;
+    frames::clear_words(frames, used, needed);
 }

@@ -17,9 +17,8 @@ use Rattle.search.specs.declared.SearchBudget.{SearchBudget}
 use Rattle.search.specs.declared.Tally.{Tally}
 use Rattle.search.specs.Walk.{Frame}
 use Rattle.search.specs.Run.{Walk, Walked, Phase, going, ended, Ending, exhausted, onWork, onEvaluation, root, stacked, begin, run, seeds, seededWith, seeded, resumed, short, afterSeeding, walkFrom, walk, untouched}
-use Rattle.walks.specs.Inner.{handing, before}
+use Rattle.walks.specs.Inner.{handing, before, seedWalk}
 use Rattle.walks.proofs.Steps.{run-after, run-ended}
-use Rattle.searching.specs.Inner.{seedWalk}
 
 -- ---- one native more
 
