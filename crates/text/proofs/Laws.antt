@@ -2,16 +2,17 @@
 use Prim.Native.Nat.{ℕ, zero, suc, _+_, _-_, _*_, _/_, _%_, _≤_, _<_, min}
 use native.Mathlib.Omega.{arith}
 use native.Mathlib.Numerals.{add-one}
-use native.Mathlib.Nat.{add-zero, add-suc, suc-add}
+use native.Mathlib.Nat.{zero-add}
 use native.Mathlib.Decide.{decLt}
 use mathlib.Core.Path.{_≡_, refl, sym, ap, _∙_, subst}
 use mathlib.Core.Bool.{Bool, true, false}
 use mathlib.Core.List.{List, [], _∷_, _++_, append-nil, append-assoc}
 use lib.Dec.{ltb}
-use lib.ListN.{length, drop, getD, set, length-append, length-set, drop-of-length-le}
-use lib.Seq.{sets, length-sets, set-out, drop-cons, drop-set-lt, getD-set-same}
+use lib.ListN.{length, take, drop, getD, set, length-append, length-set, length-take, drop-of-length-le, take-append-drop}
+use lib.Seq.{sets, sets-eq, take-all, length-sets, set-out, drop-cons, drop-set-lt, getD-set-same}
 use borrow.Author.Tests.{lt-ltb, le-ltb}
 use Rattle.ground.specs.Lists.{pick}
+use Rattle.evaluate.specs.Check.{over}
 use Rattle.search.specs.Sheet.{digits, decimal, line, field}
 use Rattle.text.specs.Inner.{Put, lastDigit, Digits}
 
@@ -50,6 +51,31 @@ put-then a b {xs} {ys} {zs} {at} {n} {m} p q =
         go : Dec (length xs < at + length a) → sets ys n b ≡ sets ys (at + length a) b
         go (yes lt) = sets-out b ys n (omega arith) ∙ sym (sets-out b ys (at + length a) (omega arith))
         go (no f) = let e : n ≡ at + length a = omega arith in rw e
+
+-- from the first place on: the text lies over what was there, as far as there is room
+pub put-over : {text xs ys : List ℕ} {n : ℕ} → Put text xs 0 ys n → ys ≡ over (take (length xs) text) xs
+put-over {text} {xs} {ys} {n} p = p .bytes ∙ cut ∙ laid
+  where
+    front : List ℕ
+    front = take (length xs) text
+
+    laid : sets xs 0 front ≡ over front xs
+    laid =
+        let k = length-take (length xs) text in
+        sets-eq front xs 0 (omega arith) ∙ rw zero-add
+
+    cut : sets xs 0 text ≡ sets xs 0 front
+    cut = go (decLt (length xs) (length text))
+      where
+        go : Dec (length xs < length text) → sets xs 0 text ≡ sets xs 0 front
+        go (yes lt) =
+            let k = length-take (length xs) text in
+            let m = length-sets xs 0 front in
+            ap (sets xs 0) (sym (take-append-drop (length xs) text)) ∙ sets-append front (drop (length xs) text) xs 0 ∙ sets-out (drop (length xs) text) (sets xs 0 front) (0 + length front) (omega arith)
+        go (no f) = ap (sets xs 0) (sym (take-all (length xs) text (omega arith)))
+
+pub put-count : {text xs ys : List ℕ} {n : ℕ} → Put text xs 0 ys n → n ≡ min (length text) (length xs)
+put-count p = p .after ∙ (omega arith)
 
 -- what is still to be put, where a text is being put
 pub record Onto (text xs : List ℕ) (at : ℕ) (rest ys : List ℕ) (to : ℕ) : Type 0 where

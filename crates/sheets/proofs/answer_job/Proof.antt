@@ -1,0 +1,12 @@
+use borrow.Author.Needs.{needs}
+use Rattle.text.proofs.Laws.{put-count, put-over}
+use Rattle.sheets.proofs.answer_job.Statement.{statement}
+use Rattle.sheets.proofs.answer_job.Tie as tie
+
+pub answer-job-spec : {M : Type 1} → statement M
+answer-job-spec =
+    tie.close
+    (tie.spec
+    (λ c κs. search needs)  -- answer-requires
+    (λ c. search needs)  -- same-length
+    (λ c. (search put-over, search put-count)))  -- returns
