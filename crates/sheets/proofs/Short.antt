@@ -6,7 +6,8 @@ use mathlib.Core.Path.{_≡_, refl, sym, _∙_, ap, subst}
 use mathlib.Core.Bool.{Bool, true, false, _&&_}
 use mathlib.Core.List.{List, [], _∷_, _++_}
 use lib.Dec.{leb, ltb, eqb}
-use lib.ListN.{length, replicate, length-append, length-replicate}
+use lib.ListN.{length, take, drop, replicate, length-append, length-replicate}
+use lib.Seq.{take-all, length-take-le}
 use lib.Ieee.{Float}
 use borrow.Author.Tests.{ltb-true, leb-true, eqb-true}
 use Rattle.ground.specs.Lists.{pick}
@@ -19,6 +20,7 @@ use Rattle.evaluate.specs.Properties.{Each}
 use Rattle.evaluate.specs.Refusals.{at, unless}
 use Rattle.evaluate.specs.Segments.{Route, Assignment, flat}
 use Rattle.evaluate.specs.Words.{encode}
+use Rattle.evaluate.specs.Check.{over}
 use Rattle.evaluate.proofs.Lists.{each-map}
 use Rattle.search.specs.declared.SearchBudget.{SearchBudget}
 use Rattle.search.specs.declared.Tally.{Tally}
@@ -34,6 +36,8 @@ use Rattle.search.specs.Sheet.{statusText, statusBytes, workText, evaluationsTe
 use Rattle.search.specs.Job.{programRooms, jobOk, panelIn, budgetIn, scoresIn, jobRefusal, printed}
 use Rattle.budget.proofs.Laws.{budget-frontier}
 use Rattle.enumeration.proofs.Room.{encode-length, handed-fits}
+use Rattle.text.specs.Inner.{Put}
+use Rattle.text.proofs.Laws.{put-over, put-count}
 use Rattle.sheets.proofs.Rooms.{incumbent-each}
 
 -- ---- lines
@@ -214,3 +218,18 @@ printed-short s = go (eqb (jobRefusal s .number) 0) refl
     go : (t : Bool) → eqb (jobRefusal s .number) 0 ≡ t → length (pick t (sheet (panelOf (panelIn s)) (search (panelOf (panelIn s)) (budgetIn s) (scoresIn s))) (refusalLine (jobRefusal s))) ≤ 20480
     go false e = let a = refusal-short (jobRefusal s) in omega arith
     go true e = searched-short (panelIn s) (budgetIn s) (scoresIn s) (job-passed s (jobOk s) refl (eqb-true (jobRefusal s .number) 0 e))
+
+module _ (s : List ℕ) {xs ys : List ℕ} {n : ℕ} (room : length xs ≡ 20480) (p : Put (printed s) xs 0 ys n) where
+  pub printed-over : ys ≡ over (printed s) xs
+  printed-over = let k = printed-short s in put-over p ∙ rw (take-all (length xs) (printed s) (omega arith))
+
+  pub printed-count : n ≡ length (printed s)
+  printed-count = let k = printed-short s in put-count p ∙ (omega arith)
+
+-- what was written lies within its room
+module _ (s xs ys : List ℕ) (n : ℕ) (e : ys ≡ over (printed s) xs) (m : n ≡ length (printed s)) where
+  pub written-inside : n ≤ length ys
+  written-inside = let k = ap length e ∙ length-append (printed s) (drop (length (printed s)) xs) in omega arith
+
+  pub written-long : n ≡ length (take n ys)
+  written-long = sym (length-take-le n ys written-inside)

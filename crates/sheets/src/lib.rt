@@ -1,7 +1,6 @@
 // What the walk program prints of a job (01, "The program").
 ghost use mathlib.Core.Path.{_≡_};
-ghost use Prim.Native.Nat.{min};
-ghost use lib.ListN.{length, take, replicate};
+ghost use lib.ListN.{length, replicate};
 ghost use Rattle.panel.specs.Inner.{Accepted};
 ghost use Rattle.evaluate.specs.Check.{over};
 ghost use Rattle.search.specs.Budget.{zeroScore};
@@ -111,10 +110,13 @@ fn answer(job: &[u8], out: &mut [u8]) -> usize
     }
 }
 
-// The bytes that the walk program prints of a job, as many as there is room for; how many they are.
-pub fn answer_job(job: &[u8], out: &mut [u8]) -> usize
-    ensures { λ r. ⌜ now (out .exit) ≡ over (take (length (now (out .entry))) (printed (now (job .entry)))) (now (out .entry)) ⌝ }
-    ensures { λ r. ⌜ r ≡ min (length (printed (now (job .entry)))) (length (now (out .entry))) ⌝ }
+// The room for what is printed: no job's answer is longer (proofs/Short.antt).
+pub const ROOM: usize = 20480;
+
+// The bytes that the walk program prints of a job; how many they are.
+pub fn answer_job(job: &[u8], out: &mut [u8; ROOM]) -> usize
+    ensures { λ r. ⌜ now (out .exit) ≡ over (printed (now (job .entry))) (now (out .entry)) ⌝ }
+    ensures { λ r. ⌜ r ≡ length (printed (now (job .entry))) ⌝ }
 {
     answer(job, out)
 }

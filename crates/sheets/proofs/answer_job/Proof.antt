@@ -1,5 +1,5 @@
 use borrow.Author.Needs.{needs}
-use Rattle.text.proofs.Laws.{put-count, put-over}
+use Rattle.sheets.proofs.Short.{printed-count, printed-over}
 use Rattle.sheets.proofs.answer_job.Statement.{statement}
 use Rattle.sheets.proofs.answer_job.Tie as tie
 
@@ -8,5 +8,4 @@ answer-job-spec =
     tie.close
     (tie.spec
     (λ c κs. search needs)  -- answer-requires
-    (λ c. search needs)  -- same-length
-    (λ c. (search put-over, search put-count)))  -- returns
+    (λ c. (search (needs, printed-over), search (needs, printed-count))))  -- returns
