@@ -1,24 +1,21 @@
 -- Laws of a job's parts.
-use Prim.Native.Nat.{ℕ, zero, suc, _+_, _-_, _*_, _%_, _≤_, _<_}
+use Prim.Native.Nat.{ℕ, zero, suc, _+_, _*_, _%_, _≤_, _<_}
 use native.Mathlib.Omega.{arith}
-use native.Mathlib.Numerals.{add-one}
 use native.Mathlib.Nat.{zero-mul, suc-mul}
 use mathlib.Core.Path.{_≡_, refl, sym, ap, _∙_, subst}
 use mathlib.Core.Bool.{Bool, true, false, not, _&&_, _||_, true≢false}
 use mathlib.Core.List.{List, [], _∷_, _++_, map}
-use lib.Dec.{T, leb, ltb, eqb}
-use lib.ListN.{length, take, drop, getD, set, length-set}
+use lib.Dec.{T, leb, eqb}
+use lib.ListN.{length, take, drop, set, length-set}
 use lib.Seq.{drop-drop, take-suc-set}
-use lib.IntN.{pos}
 use lib.Ieee.{Float, nan, inf, fin, binary64, nanBits, ofBits, isNan, sub}
 use lib.Ieee.Bits.{nanBits-is, nanBits-above}
-use borrow.Author.Tests.{lt-ltb, le-ltb, le-leb, lt-leb, leb-true, eq-eqb, ne-eqb, eqb-true}
-use Rattle.ground.specs.Lists.{pick, each}
+use borrow.Author.Tests.{lt-ltb, le-ltb, le-leb, leb-true, ne-eqb, eqb-true}
+use Rattle.ground.specs.Lists.{each}
 use Rattle.ground.proofs.ListLaws.{both}
 use Rattle.storage.specs.Bytes.{number}
 use Rattle.search.specs.declared.SearchBudget.{SearchBudget}
-use Rattle.search.specs.Budget.{zeroScore}
-use Rattle.search.specs.Job.{mostJob, mostScores, panelBytes, budgetWords, scoreCount, jobOk, doubleOf, defaultBudget, budgetFrom, budgetIn, scoresIn}
+use Rattle.search.specs.Job.{mostJob, mostScores, panelBytes, budgetWords, scoreCount, jobOk, doubleOf, defaultBudget, budgetFrom, budgetIn}
 use Rattle.jobs.specs.Inner.{Sound, Scored}
 
 -- ---- 16

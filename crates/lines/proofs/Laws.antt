@@ -3,7 +3,7 @@ use Prim.Native.Nat.{ℕ, zero, suc, _+_, _-_, _*_, _≤_, _<_}
 use native.Mathlib.Omega.{arith}
 use mathlib.Core.Path.{_≡_, refl, sym, ap, _∙_, subst}
 use mathlib.Core.Bool.{Bool, true, false}
-use mathlib.Core.List.{List, [], _∷_, _++_, append-nil, append-assoc}
+use mathlib.Core.List.{List, [], _∷_, _++_, append-assoc}
 use lib.Dec.{eqb}
 use lib.ListN.{length, drop, getD, length-drop, drop-of-length-le, List·getD-eq-default}
 use lib.Seq.{drop-cons, drop-drop, getD-drop}
@@ -16,21 +16,20 @@ use Rattle.image.specs.declared.Header.{Header}
 use Rattle.image.specs.declared.Family.{Family}
 use Rattle.image.specs.Image.{pathsOf}
 use Rattle.image.specs.Inner.{Framed, Groups}
-use Rattle.image.specs.Panel.{Panel, panelBy, panelOf, pathsAt}
+use Rattle.image.specs.Panel.{Panel, panelOf, pathsAt}
 use Rattle.image.proofs.Laws.{panel-families, families-length}
 use Rattle.panel.specs.Inner.{Accepted}
 use Rattle.evaluate.specs.declared.Segment.{Segment}
-use Rattle.evaluate.specs.declared.Refusal.{Refusal}
 use Rattle.evaluate.specs.Properties.{Each}
 use Rattle.evaluate.specs.Segments.{Route, Assignment}
 use Rattle.search.specs.declared.SearchReply.{SearchReply}
 use Rattle.search.specs.declared.Status.the-variants.{Certified, SupportIncomplete, WorkExhausted, EvaluationExhausted, FrontierExhausted}
-use Rattle.search.specs.Sheet.{statusText, statusBytes, refusedText, workText, evaluationsText, nativesText, donorsText, nonNativeText, mixedText, mixedIdentityText, switchesText, familiesText, optimaText, foreignText, routeText, decimal, line, field, turnText, tallyLines, routeLines, routesLines, refusalLine, foreignIn, foreignOn, foreign}
+use Rattle.search.specs.Sheet.{statusText, statusBytes, refusedText, workText, evaluationsText, nativesText, donorsText, nonNativeText, mixedText, optimaText, foreignText, routeText, decimal, line, field, turnText, tallyLines, routeLines, routesLines, refusalLine, foreignIn, foreignOn, foreign}
 use Rattle.words.specs.Inner.{segmentOf, segmentsOf, routesOf, assignmentOf}
 use Rattle.words.proofs.Reading.{segments-none, segments-next, routes-none, routes-next}
 use Rattle.text.specs.Inner.{Put}
 use Rattle.text.proofs.Laws.{put-then, word-then, Onto, onto-start, onto-piece, onto-end}
-use Rattle.lines.specs.Inner.{statusFrom, walkedLines, mixedLines, switchedLines, tallyIn, slotText, segmentLine, Begin, Readable, Low, Few, Incumbent, Held, incumbentText, sheetOf}
+use Rattle.lines.specs.Inner.{statusFrom, walkedLines, mixedLines, switchedLines, tallyIn, slotText, segmentLine, Begin, Readable, Low, Few, Incumbent, incumbentText, sheetOf}
 
 -- ---- the status
 

@@ -8,7 +8,7 @@ use Rattle.ground.specs.Lists.{pick}
 use Rattle.image.specs.Panel.{Panel}
 use Rattle.evaluate.specs.declared.Segment.{Segment}
 use Rattle.evaluate.specs.Properties.{Each}
-use Rattle.evaluate.specs.Segments.{Route, Assignment}
+use Rattle.evaluate.specs.Segments.{Assignment}
 use Rattle.words.specs.Inner.{routesOf}
 use Rattle.search.specs.declared.SearchReply.{SearchReply}
 use Rattle.search.specs.declared.Tally.{Tally}

@@ -1,5 +1,5 @@
 -- Laws of what the program prints.
-use Prim.Native.Nat.{ℕ, zero, suc, _+_, _-_, _*_, _≤_, _<_, min}
+use Prim.Native.Nat.{ℕ, zero, suc, _+_, _-_, _*_, _≤_, _<_}
 use native.Mathlib.Omega.{arith}
 use mathlib.Core.Path.{_≡_, refl, sym, _∙_, ap, subst}
 use mathlib.Core.Bool.{Bool, true, false}
@@ -8,19 +8,17 @@ use lib.Dec.{eqb}
 use lib.ListN.{length, take, drop, replicate}
 use lib.Seq.{length-take-le}
 use lib.Ieee.{Float}
-use borrow.Author.Tests.{eq-eqb, ne-eqb, eqb-true}
-use Rattle.ground.specs.Lists.{pick, each}
+use borrow.Author.Tests.{eq-eqb, ne-eqb}
+use Rattle.ground.specs.Lists.{pick}
 use Rattle.storage.specs.Bytes.{number}
 use Rattle.image.specs.declared.Header.{Header}
 use Rattle.image.specs.Panel.{Panel, panelOf, pathsAt}
 use Rattle.image.specs.declared.Opened.{Opened}
-use Rattle.image.specs.declared.Opened.the-variants.{Good, Refused}
+use Rattle.image.specs.declared.Opened.the-variants.{Refused}
 use Rattle.panel.specs.Inner.{Accepted}
-use Rattle.graph.specs.Check.{checked, panelRefusal, refusalOf}
+use Rattle.graph.specs.Check.{checked, panelRefusal}
 use Rattle.evaluate.specs.Refusals.{at}
-use Rattle.evaluate.specs.declared.Refusal.{Refusal}
 use Rattle.evaluate.specs.Properties.{Each}
-use Rattle.evaluate.specs.Segments.{Assignment}
 use Rattle.evaluate.specs.Check.{over}
 use Rattle.evaluate.proofs.Native.{checked-none}
 use Rattle.words.specs.Inner.{assignmentOf}
@@ -30,15 +28,14 @@ use Rattle.search.specs.declared.Status.{Status}
 use Rattle.search.specs.declared.Status.the-variants.{Certified, SupportIncomplete, WorkExhausted, EvaluationExhausted, FrontierExhausted}
 use Rattle.search.specs.Budget.{zeroScore}
 use Rattle.search.specs.Counters.{statusNumber}
-use Rattle.search.specs.Keep.{Kept, Evaluated}
-use Rattle.search.specs.Run.{walk}
-use Rattle.search.specs.Search.{State, Searched, search, statusAfter}
+use Rattle.search.specs.Keep.{Evaluated}
+use Rattle.search.specs.Search.{Searched, search, statusAfter}
 use Rattle.search.specs.Rooms.{keptLeft, leftIn}
 use Rattle.search.specs.Answers.{Rooms, searchRefusal, refusedSearch, replyOf, searchAnswer, roomsAfter, searchRooms}
-use Rattle.search.specs.Sheet.{statusText, statusBytes, line, field, foreignText, optimaText, tallyLines, routesLines, incumbentLines, foreign, foreignOn, sheet, refusalLine}
+use Rattle.search.specs.Sheet.{field, foreignText, routesLines, incumbentLines, foreign, foreignOn, sheet, refusalLine}
 use Rattle.search.specs.Job.{jobOk, panelIn, budgetIn, scoresIn, programRooms, jobRefusal, printed}
 use Rattle.text.specs.Inner.{Put}
-use Rattle.lines.specs.Inner.{statusFrom, tallyIn, incumbentText, sheetOf, Held}
+use Rattle.lines.specs.Inner.{statusFrom, incumbentText, sheetOf, Held}
 use Rattle.jobs.specs.Inner.{Sound, Scored}
 use Rattle.sheets.specs.Inner.{incumbentOf, answerText}
 use Rattle.sheets.proofs.Spans.{LowAssignment, accepted-bounded, handed-low}

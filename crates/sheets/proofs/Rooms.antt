@@ -1,11 +1,11 @@
 -- The kept room begins with the words of the incumbent, whose lines the sheet ends with.
-use Prim.Native.Nat.{ℕ, zero, suc, _+_, _-_, _*_, _≤_, _<_}
+use Prim.Native.Nat.{ℕ, suc, _+_, _-_, _*_, _≤_}
 use native.Mathlib.Omega.{arith}
 use mathlib.Core.Path.{_≡_, refl, sym, _∙_, ap, ap₂, subst}
 use mathlib.Core.Bool.{Bool, true, false, not, _&&_}
 use mathlib.Core.List.{List, [], _∷_, _++_, map, append-assoc}
 use lib.Dec.{ltb, eqb}
-use lib.ListN.{length, drop, getD, replicate, length-append}
+use lib.ListN.{length, drop, replicate, length-append}
 use lib.Seq.{drop-at}
 use lib.Ieee.{Float}
 use Rattle.ground.specs.Lists.{pick, each}
@@ -20,9 +20,9 @@ use Rattle.words.specs.Inner.{segmentOf, segmentsOf, routesOf, assignmentOf}
 use Rattle.search.specs.declared.SearchBudget.{SearchBudget}
 use Rattle.search.specs.Run.{walk}
 use Rattle.search.specs.Keep.{Kept, nothing, Evaluated, scoreOf, sameEvaluated, lowers, near, has, replaced, adding, lowered, added, keepOne, keepAll, evaluated}
-use Rattle.search.specs.Search.{State, Searched, searchFrom, searchedAs, search, walked, keptOf, scoresToCome, fresh}
-use Rattle.search.specs.Rooms.{padTo, slotWidth, slotWords, keptNeeded, keptLeft, widthFor, mostPaths}
-use Rattle.lines.specs.Inner.{Low, Begin, Readable, Incumbent, Held}
+use Rattle.search.specs.Search.{searchFrom, searchedAs, search, walked, keptOf}
+use Rattle.search.specs.Rooms.{padTo, slotWidth, slotWords, keptLeft}
+use Rattle.lines.specs.Inner.{Low, Begin, Held}
 use Rattle.sheets.specs.Inner.{incumbentOf}
 use Rattle.sheets.proofs.Spans.{LowAssignment}
 

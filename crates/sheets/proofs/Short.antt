@@ -1,12 +1,12 @@
 -- What the program prints is at most so many bytes, for every job.
-use Prim.Native.Nat.{ℕ, zero, suc, _+_, _-_, _*_, _/_, _%_, _≤_, _<_}
+use Prim.Native.Nat.{ℕ, zero, suc, _+_, _*_, _/_, _%_, _≤_, _<_}
 use native.Mathlib.Omega.{arith}
 use native.Mathlib.Nat.{mul-le-mul-right}
-use mathlib.Core.Path.{_≡_, refl, sym, _∙_, ap, subst}
+use mathlib.Core.Path.{_≡_, refl, sym, _∙_, ap}
 use mathlib.Core.Bool.{Bool, true, false, _&&_}
 use mathlib.Core.List.{List, [], _∷_, _++_}
 use lib.Dec.{leb, ltb, eqb}
-use lib.ListN.{length, take, drop, replicate, length-append, length-replicate}
+use lib.ListN.{length, take, drop, length-append, length-replicate}
 use lib.Seq.{take-all, length-take-le}
 use lib.Ieee.{Float}
 use borrow.Author.Tests.{ltb-true, leb-true, eqb-true}
@@ -14,7 +14,6 @@ use Rattle.ground.specs.Lists.{pick}
 use Rattle.ground.proofs.ListLaws.{both}
 use Rattle.image.specs.Panel.{Panel, panelOf}
 use Rattle.graph.specs.Check.{panelRefusal}
-use Rattle.evaluate.specs.declared.Segment.{Segment}
 use Rattle.evaluate.specs.declared.Refusal.{Refusal}
 use Rattle.evaluate.specs.Properties.{Each}
 use Rattle.evaluate.specs.Refusals.{at, unless}
@@ -27,12 +26,12 @@ use Rattle.search.specs.declared.Tally.{Tally}
 use Rattle.search.specs.declared.Status.{Status}
 use Rattle.search.specs.declared.Status.the-variants.{Certified, SupportIncomplete, WorkExhausted, EvaluationExhausted, FrontierExhausted}
 use Rattle.search.specs.Budget.{widthOk, budgetOk, budgetInBounds, budgetRefusal}
-use Rattle.search.specs.Keep.{Kept, Evaluated}
+use Rattle.search.specs.Keep.{Evaluated}
 use Rattle.search.specs.Run.{walk}
-use Rattle.search.specs.Search.{State, Searched, search, statusAfter, evaluationRefusal, fresh}
+use Rattle.search.specs.Search.{Searched, search, statusAfter}
 use Rattle.search.specs.Rooms.{slotWidth, framesNeeded, keptNeeded, scoresNeeded, roomsRefusal}
-use Rattle.search.specs.Answers.{Rooms, searchRefusal}
-use Rattle.search.specs.Sheet.{statusText, statusBytes, workText, evaluationsText, nativesText, donorsText, nonNativeText, mixedText, mixedIdentityText, switchesText, familiesText, optimaText, foreignText, routeText, refusedText, digits, decimal, line, field, turnText, routeLines, routesLines, incumbentLines, tallyLines, foreign, sheet, refusalLine}
+use Rattle.search.specs.Answers.{searchRefusal}
+use Rattle.search.specs.Sheet.{statusText, statusBytes, workText, evaluationsText, nativesText, donorsText, nonNativeText, mixedText, mixedIdentityText, switchesText, familiesText, optimaText, foreignText, routeText, digits, decimal, line, field, turnText, routeLines, routesLines, incumbentLines, tallyLines, foreign, sheet, refusalLine}
 use Rattle.search.specs.Job.{programRooms, jobOk, panelIn, budgetIn, scoresIn, jobRefusal, printed}
 use Rattle.budget.proofs.Laws.{budget-frontier}
 use Rattle.enumeration.proofs.Room.{encode-length, handed-fits}

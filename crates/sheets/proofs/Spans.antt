@@ -1,12 +1,12 @@
 -- No segment that the walk hands over ends past the bound of a lane's length.
-use Prim.Native.Nat.{ℕ, zero, suc, _+_, _-_, _/_, _≤_, _<_, max}
+use Prim.Native.Nat.{ℕ, zero, suc, _+_, _-_, _≤_, _<_}
 use native.Mathlib.Omega.{arith}
 use native.Mathlib.Decide.{decLt}
-use mathlib.Core.Path.{_≡_, refl, sym, _∙_, ap, subst}
+use mathlib.Core.Path.{_≡_, refl, sym, ap, subst}
 use mathlib.Core.Bool.{Bool, true, false, not, _||_}
 use mathlib.Core.List.{List, [], _∷_, _++_, map, append-assoc, append-nil, List·Memᴰ}
 use lib.Dec.{leb, ltb, eqb}
-use lib.ListN.{length, drop, getD, List·getD-eq-default}
+use lib.ListN.{length, getD, List·getD-eq-default}
 use borrow.Author.Tests.{leb-true}
 use Rattle.ground.specs.Lists.{pick, within}
 use Rattle.ground.proofs.ListLaws.{both, all-at}
@@ -21,12 +21,11 @@ use Rattle.panel.specs.Refusals.{lengthOk}
 use Rattle.panel.specs.Inner.{Accepted}
 use Rattle.graph.specs.Lookups.{bucketLo, bucketHi}
 use Rattle.graph.proofs.PanelLaws.{lane-ends, hub-in-lane}
-use Rattle.evaluate.specs.declared.Segment.{Segment}
 use Rattle.evaluate.specs.Properties.{Each}
-use Rattle.evaluate.specs.Segments.{Route, Assignment, flat, clear, whole, nativeOf}
-use Rattle.evaluate.proofs.Lists.{each-append, append-each}
+use Rattle.evaluate.specs.Segments.{Assignment, flat, clear, whole, nativeOf}
+use Rattle.evaluate.proofs.Lists.{each-append}
 use Rattle.search.specs.declared.SearchBudget.{SearchBudget}
-use Rattle.search.specs.Walk.{pass, down, give, Place, Frame, Doing, Act, leave, doing, enter, begins, onPath, pieceTo, reach, switched, closes, closed, samePlace, terminalTask, memberTask, onward, behind, outgoing, portsHere, hubOpen, nextPort, spent, moved, portUnit, hubUnit, unitOf, takesMember}
+use Rattle.search.specs.Walk.{pass, down, give, Place, Frame, Doing, Act, leave, doing, enter, begins, onPath, pieceTo, reach, switched, closes, closed, samePlace, terminalTask, memberTask, onward, behind, outgoing, hubOpen, nextPort, spent, moved, portUnit, hubUnit, unitOf, takesMember}
 use Rattle.search.specs.Run.{Walk, exhausted, onEvaluation, onFrontier, Phase, going, ended, limitsOf, root, stacked, begin, spend, doneWith, afterAct, onTop, unit, units, stopped, run, seeds, seededWith, seeded, short, afterSeeding, walkFrom, untouched, walk}
 use Rattle.enumeration.proofs.Ports.{closed-path}
 use Rattle.enumeration.proofs.Budgets.{walkIn}

@@ -1,11 +1,10 @@
 -- Laws of a text that is put into a room, one piece behind the other.
-use Prim.Native.Nat.{ℕ, zero, suc, _+_, _-_, _*_, _/_, _%_, _≤_, _<_, min}
+use Prim.Native.Nat.{ℕ, suc, _+_, _-_, _/_, _≤_, _<_, min}
 use native.Mathlib.Omega.{arith}
 use native.Mathlib.Numerals.{add-one}
 use native.Mathlib.Nat.{zero-add}
 use native.Mathlib.Decide.{decLt}
 use mathlib.Core.Path.{_≡_, refl, sym, ap, _∙_, subst}
-use mathlib.Core.Bool.{Bool, true, false}
 use mathlib.Core.List.{List, [], _∷_, _++_, append-nil, append-assoc}
 use lib.Dec.{ltb}
 use lib.ListN.{length, take, drop, getD, set, length-append, length-set, length-take, drop-of-length-le, take-append-drop}
@@ -13,7 +12,7 @@ use lib.Seq.{sets, sets-eq, take-all, length-sets, set-out, drop-cons, drop-set-
 use borrow.Author.Tests.{lt-ltb, le-ltb}
 use Rattle.ground.specs.Lists.{pick}
 use Rattle.evaluate.specs.Check.{over}
-use Rattle.search.specs.Sheet.{digits, decimal, line, field}
+use Rattle.search.specs.Sheet.{digits, decimal, field}
 use Rattle.text.specs.Inner.{Put, lastDigit, Digits}
 
 -- ---- bytes that are set one behind the other

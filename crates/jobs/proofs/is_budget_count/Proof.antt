@@ -1,4 +1,3 @@
-use borrow.Author.Needs.{needs}
 use Rattle.jobs.proofs.Laws.{count-none, count-some}
 use Rattle.jobs.proofs.is_budget_count.Statement.{statement}
 use Rattle.jobs.proofs.is_budget_count.Tie as tie

@@ -1,4 +1,3 @@
-use borrow.Author.Needs.{needs}
 use Rattle.lines.proofs.Laws.{foreign-back, foreign-none, foreign-some}
 use Rattle.lines.proofs.foreign_of.Statement.{statement}
 use Rattle.lines.proofs.foreign_of.Tie as tie
