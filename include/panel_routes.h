@@ -21,10 +21,25 @@ typedef struct { uint64_t refusal, place, lo, hi; } bucket_reply;
 /* words: how many words of out were written, the normal form */
 typedef struct { uint64_t refusal, place, words; } assignment_reply;
 
+typedef struct { uint64_t max_work, max_evaluations, max_frontier, max_optima; double tie_width; } search_budget;
+
+/* status: 1 certified, 2 support incomplete, 3 work, 4 evaluation, 5 frontier */
+typedef struct { uint64_t refusal, place, status, written, words, evaluations; } list_reply;
+
+/* optima: tied optima kept; discarded: 1 where one was discarded; frames: frames left; pending: 1 where a child is pending */
+typedef struct {
+    uint64_t refusal, place, status, work, evaluations, natives, donors, non_native, mixed, mixed_identity, switches, families;
+    uint64_t optima, discarded, frames, pending;
+} search_reply;
+
 panel_reply  panel_routes_check_panel(const uint8_t *image, size_t image_len);
 port_reply   panel_routes_port_at_cut(const uint8_t *image, size_t image_len, uint64_t lane, uint64_t cut, bool reverse);
 bucket_reply panel_routes_hub_bucket(const uint8_t *image, size_t image_len, const uint8_t *word, size_t word_len);
 assignment_reply panel_routes_check_assignment(const uint8_t *image, size_t image_len, const uint64_t *words, size_t words_len, uint64_t *out, size_t out_len);
+list_reply   panel_routes_list(const uint8_t *image, size_t image_len, search_budget budget, uint64_t from, uint64_t *frames, size_t frames_len,
+                               uint64_t *slot, size_t slot_len, uint64_t *out, size_t out_len);
+search_reply panel_routes_search(const uint8_t *image, size_t image_len, search_budget budget, const double *scores, size_t scores_len,
+                                 uint64_t *frames, size_t frames_len, uint64_t *kept, size_t kept_len, double *kept_scores, size_t kept_scores_len);
 
 #ifdef __cplusplus
 }

@@ -280,6 +280,15 @@ hub-lane s h i acc lt =
     let ok = record-sound s h (h .«hub_at») i (acc .hubRecords) lt in
     ltb-true (p .source) (h .lanes) (both (ltb (p .source) (h .lanes)) (leb (p .anchor + h .k) (getD (entries h s) (p .source) noEntry .len)) ok .0)
 
+or-true : (b : Bool) → b || true ≡ true
+or-true true = refl
+or-true false = refl
+
+pub meets-blocked : (s : List ℕ) (h : Header) (family : Family) (f : Stored) (flag : Bool) → flag ≡ false → Meets s h family f flag Pass
+unfolding memberTask
+meets-blocked s h family f flag off =
+    record { task = λ a q. rw (← q, off, or-true (samePlace (panelOf s .k) (getD (panelOf s .hub) (f .«hub_next») noPort) (getD (laneAt (panelOf s) (f .source) .ports) (behind (f .reverse) (f .next)) noPort))); going = refl; child = no-child-pass s h (family .count); slots = no-slots-pass f; kept = pass-not-down flag }
+
 module _ (s : List ℕ) (h : Header) (family : Family) (l : Lane) (f : Stored) (flag b : Bool) (i : ℕ) (out to : Landing) (acc : Accepted s h) (st : Stands s h l) (here : l .number ≡ f .source)
     (so : Sound s h (family .count) f) (lt : f .«hub_next» < f .«hub_end») (ei : i ≡ behind (f .reverse) (f .next)) (eo : out ≡ landingOf (h .k) (getD (portsOf h s (l .number)) i noPort))
     (eto : to ≡ landingOf (h .k) (getD (hub h s) (f .«hub_next») noPort)) (eb : b ≡ sameLanding to out) where
@@ -290,10 +299,6 @@ module _ (s : List ℕ) (h : Header) (family : Family) (l : Lane) (f : Stored) (
   pub meets-itself : b ≡ true → Meets s h family f flag Pass
   unfolding memberTask
   meets-itself it = record { task = λ a q. rw (place-told, it); going = refl; child = no-child-pass s h (family .count); slots = no-slots-pass f; kept = pass-not-down flag }
-
-  pub meets-blocked : b ≡ false → flag ≡ false → Meets s h family f flag Pass
-  unfolding memberTask
-  meets-blocked not-so off = record { task = λ a q. rw (place-told, not-so, ← q, off); going = refl; child = no-child-pass s h (family .count); slots = no-slots-pass f; kept = pass-not-down flag }
 
   pub meets-down : (t : Segment) (c : Stored) → b ≡ false → flag ≡ true → t ≡ pieceTo (bare f) (out .cut) → c ≡ childOf (f .slot) to t → Meets s h family f flag (Down c)
   unfolding memberTask landingOf

@@ -179,7 +179,8 @@ fn behind_next(f: Stored) -> usize
     if f.reverse { next } else { next - 2 }
 }
 
-// A hub member: it is the outgoing port itself, or the piece up to the outgoing cut is not clear, or it is gone down to.
+// A hub member: the piece up to the outgoing cut is not clear, so it is passed over unread, or it is the outgoing port itself, or it is
+// gone down to.
 fn meet(
     image: &[u8],
     h: image::Header,
@@ -191,12 +192,12 @@ fn meet(
     requires { ⌜ Accepted (now image) h × Stands (now image) h l × (l .number ≡ f .source) × Sound (now image) h (family .count) f × (f .«hub_next» < f .«hub_end») ⌝ }
     ensures { λ r. ⌜ Meets (now (image .entry)) h family f clear r ⌝ }
 {
-    let out = landings::lane_landing(image, h, l, behind_next(f));
-    let to = landings::hub_landing(image, h, f.hub_next as usize);
-    if landings::is_same_landing(to, out) {
-        return Action::Pass;
-    }
     if clear {
+        let out = landings::lane_landing(image, h, l, behind_next(f));
+        let to = landings::hub_landing(image, h, f.hub_next as usize);
+        if landings::is_same_landing(to, out) {
+            return Action::Pass;
+        }
         Action::Down(child(f.slot, to, piece_to(f, out.cut)))
     } else {
         Action::Pass

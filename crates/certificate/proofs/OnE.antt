@@ -52,7 +52,7 @@ nativeE = record { family = 0; routes = (fwd 0 0 10 ∷ []) ∷ [] }
 abbrev mosaicE : Assignment
 mosaicE = record { family = 0; routes = (fwd 0 0 4 ∷ fwd 1 6 8 ∷ fwd 0 7 10 ∷ []) ∷ [] }
 
-abbrev default : SearchBudget
+abbrev pub default : SearchBudget
 default = budget 100000 1000 32 8 0
 
 -- what is evaluated
@@ -155,7 +155,7 @@ least-E =
     subst (Least panelE default scores) (head-eq-of-cons-eq (sym (r .1) ∙ best-E)) (r .2)
 
 -- and the tied list is complete
-certified-E : searchAnswer panelE default scores rooms .status ≡ statusNumber Certified
+pub certified-E : searchAnswer panelE default scores rooms .status ≡ statusNumber Certified
 unfolding on
 certified-E = ap (λ (l : List ℕ). getD l 1 0) (table .p0)
 
@@ -166,7 +166,7 @@ tied-E = demand3 .tied panelE default scores rooms admitted-E certified-E best b
 abbrev lent : ListRooms
 lent = record { frames = replicate 330 0; slot = replicate 138 0; out = replicate 14 0 }
 
-searched-E : searchAnswer panelE default scores rooms .refusal ≡ 0
+pub searched-E : searchAnswer panelE default scores rooms .refusal ≡ 0
 unfolding on
 searched-E = ap (λ (l : List ℕ). getD l 0 0) (table .p0)
 

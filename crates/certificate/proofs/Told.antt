@@ -131,7 +131,7 @@ module _ (s : List ℕ) (b : SearchBudget) (xs : List Float) (rooms : Rooms) (gi
             ap (λ (l : List Evaluated). padScores 1 (map scoreOf l)) is
             ∙ ap (λ (n : ℕ). (i .score ∷ []) ++ replicate n zeroScore) (let e : 1 - length {A = Float} (i .score ∷ []) ≡ 0 = omega arith in e)
 
-    in-slot : Each (Fits v) (i ∷ kept .tied) → (d : Evaluated) (n : ℕ) → n < length (i ∷ kept .tied) → InSlot s b xs rooms n (getD (i ∷ kept .tied) n d)
+    in-slot : Each (Fits v) (i ∷ kept .tied) → (d : Evaluated) (n : ℕ) → n < length (i ∷ kept .tied) → InSlot (slotWidth (panelOf s) b) (searchRooms s b xs rooms) n (getD (i ∷ kept .tied) n d)
     in-slot all d n lt =
         let (more, e) = all-slots in
         let w = slots-at v (i ∷ kept .tied) more d all n lt in

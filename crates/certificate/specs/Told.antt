@@ -13,11 +13,11 @@ use Rattle.search.specs.Rooms.{slotWidth}
 use Rattle.search.specs.Answers.{Rooms, searchAnswer, searchRooms}
 use Rattle.certificate.specs.Terms.{Admitted, Exhausted, keptBy, Least}
 
--- slot n of the kept room begins with the assignment's words, and score n is its score
-pub record InSlot (s : List ℕ) (b : SearchBudget) (xs : List Float) (rooms : Rooms) (n : ℕ) (e : Evaluated) : Type 0 where
+-- slot n of the kept room, of v words, begins with the assignment's words, and score n is its score
+pub record InSlot (v : ℕ) (rooms : Rooms) (n : ℕ) (e : Evaluated) : Type 0 where
   pub left : List ℕ
-  pub words : readAssignment (drop (n * slotWidth (panelOf s) b) (searchRooms s b xs rooms .kept)) ≡ got (e .assignment) left
-  pub score : getD (searchRooms s b xs rooms .scores) n zeroScore ≡ e .score
+  pub words : readAssignment (drop (n * v) (rooms .kept)) ≡ got (e .assignment) left
+  pub score : getD (rooms .scores) n zeroScore ≡ e .score
 
 -- slot 0 has the incumbent: a legal assignment with its score, and no legal assignment scores below it; the slots behind it, as many as
 -- the answer says, have the tied list
@@ -25,9 +25,9 @@ pub record Told (s : List ℕ) (b : SearchBudget) (xs : List Float) (rooms : Roo
   pub incumbent : Evaluated
   pub best : keptBy s b xs .best ≡ incumbent ∷ []
   pub least : Least s b xs incumbent
-  pub slot : InSlot s b xs rooms 0 incumbent
+  pub slot : InSlot (slotWidth (panelOf s) b) (searchRooms s b xs rooms) 0 incumbent
   pub many : searchAnswer s b xs rooms .optima ≡ length (keptBy s b xs .tied)
-  pub slots : (d : Evaluated) (j : ℕ) → j < searchAnswer s b xs rooms .optima → InSlot s b xs rooms (suc j) (getD (keptBy s b xs .tied) j d)
+  pub slots : (d : Evaluated) (j : ℕ) → j < searchAnswer s b xs rooms .optima → InSlot (slotWidth (panelOf s) b) (searchRooms s b xs rooms) (suc j) (getD (keptBy s b xs .tied) j d)
 
 -- What the rooms tell of a search that reports exhaustion; that the tied list is complete, is TiedAreAll.
 abbrev pub RoomsTell : Type 0

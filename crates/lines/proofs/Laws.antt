@@ -15,7 +15,7 @@ use mir.Syntax.{w64}
 use Rattle.image.specs.declared.Header.{Header}
 use Rattle.image.specs.declared.Family.{Family}
 use Rattle.image.specs.Image.{pathsOf}
-use Rattle.image.specs.Inner.{Framed, Groups}
+use Rattle.image.specs.Inner.{Groups}
 use Rattle.image.specs.Panel.{Panel, panelOf, pathsAt}
 use Rattle.image.proofs.Laws.{panel-families, families-length}
 use Rattle.panel.specs.Inner.{Accepted}
@@ -27,6 +27,7 @@ use Rattle.search.specs.declared.Status.the-variants.{Certified, SupportIncompl
 use Rattle.search.specs.Sheet.{statusText, statusBytes, refusedText, workText, evaluationsText, nativesText, donorsText, nonNativeText, mixedText, optimaText, foreignText, routeText, decimal, line, field, turnText, tallyLines, routeLines, routesLines, refusalLine, foreignIn, foreignOn, foreign}
 use Rattle.words.specs.Inner.{segmentOf, segmentsOf, routesOf, assignmentOf}
 use Rattle.words.proofs.Reading.{segments-none, segments-next, routes-none, routes-next}
+use Rattle.routes.proofs.Laws.{paths-are}
 use Rattle.text.specs.Inner.{Put}
 use Rattle.text.proofs.Laws.{put-then, word-then, Onto, onto-start, onto-piece, onto-end}
 use Rattle.lines.specs.Inner.{statusFrom, walkedLines, mixedLines, switchedLines, tallyIn, slotText, segmentLine, Begin, Readable, Low, Few, Incumbent, incumbentText, sheetOf}
@@ -309,10 +310,6 @@ module _ {paths : List ℕ} {count : ℕ} {ws : List ℕ} {routes place slot sum
       let zero-left : routes - slot ≤ 0 = omega arith in
       let none : foreignOn (drop slot paths) (routesOf (routes - slot) (drop place ws)) ≡ 0 = rw (routes-none (drop place ws) (routes - slot) zero-left) (foreign-of-none (drop slot paths)) in
       omega (arith, w .todo, none)
-
-paths-are : (s : List ℕ) (h : Header) (n : ℕ) → Framed s h → pathsAt (panelOf s) n ≡ pathsOf h s n
-unfolding pathsOf
-paths-are s h n f = rw (panel-families s h f)
 
 pub foreign-told : (s ws : List ℕ) (h : Header) (f : Family) (r : ℕ) → Groups s h f → f .number ≡ getD ws 0 0 → r ≡ foreignOn (pathsOf h s (f .number)) (routesOf (getD ws 1 0) (drop 2 ws))
     → r ≡ foreign (panelOf s) (assignmentOf ws)

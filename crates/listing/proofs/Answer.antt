@@ -1,11 +1,11 @@
 -- The answer by cases of refusals, and what it leaves of the rooms.
-use Prim.Native.Nat.{ℕ, zero, suc, _+_, _*_, _≤_, _<_}
+use Prim.Native.Nat.{ℕ, zero, suc, _≤_, _<_}
 use native.Mathlib.Omega.{arith}
 use mathlib.Core.Path.{_≡_, refl, sym, ap, subst, _∙_}
 use mathlib.Core.Bool.{Bool, true, false, _&&_}
-use mathlib.Core.List.{List, [], _∷_, _++_}
+use mathlib.Core.List.{List, []}
 use lib.Dec.{leb, ltb, eqb}
-use lib.ListN.{length, drop, replicate}
+use lib.ListN.{length}
 use borrow.Author.Tests.{eq-eqb, ne-eqb, leb-true, ltb-true}
 use Rattle.ground.specs.Lists.{pick}
 use Rattle.ground.proofs.ListLaws.{both}
@@ -21,12 +21,11 @@ use Rattle.evaluate.proofs.Native.{checked-none}
 use Rattle.search.specs.declared.SearchBudget.{SearchBudget}
 use Rattle.search.specs.declared.ListReply.{ListReply}
 use Rattle.search.specs.Budget.{widthOk, budgetOk, budgetInBounds, budgetRefusal}
-use Rattle.search.specs.Run.{walk}
 use Rattle.search.specs.Rooms.{clears, leftIn, slotWidth, framesNeeded, listRoomsRefusal}
-use Rattle.search.specs.Answers.{ListRooms, written, refusedList, listReplyOf, listedIn, listRefusal, listAnswer, listRooms}
+use Rattle.search.specs.Answers.{ListRooms, refusedList, listedIn, listRefusal, listAnswer, listRooms}
 use Rattle.budget.specs.Inner.{Bounded, listRoomsBy}
 use Rattle.budget.proofs.Laws.{budget-bounded, list-rooms-by}
-use Rattle.listing.specs.Inner.{Framed, Told, listPanelRefusal, Replied}
+use Rattle.listing.specs.Inner.{FrameRoom, Told, listPanelRefusal, Replied}
 
 -- ---- a refusal's answer
 
@@ -105,7 +104,7 @@ module _ (b : SearchBudget) (n v k : ℕ) (fs xs : List ℕ) (en : n ≡ budgetR
           (leb-true _ _ (q .0), leb-true _ _ (q .1))
       go false f z = let y : ⊥ = omega arith in absurd y
 
-  pub panel-framed : Framed b fs
+  pub panel-framed : FrameRoom b fs
   panel-framed = record { some = budget-frontier b (omega arith); small = panel-bounded b n en none .frontier; room = long .0 }
 
   pub panel-slot : v ≤ length xs

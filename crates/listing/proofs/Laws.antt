@@ -1,20 +1,18 @@
 -- Laws of the listing's evaluation.
-use Prim.Native.Nat.{ℕ, zero, suc, _+_, _-_, _*_, _≤_, _<_}
+use Prim.Native.Nat.{ℕ, zero, suc, _+_, _-_, _≤_, _<_}
 use native.Mathlib.Numerals.{add-one}
 use native.Mathlib.Nat.{not-suc-le-zero}
 use native.Mathlib.Omega.{arith}
-use mathlib.Core.Path.{_≡_, refl, sym, ap, ap₂, _∙_}
-use mathlib.Core.Bool.{Bool, true, false}
-use mathlib.Core.List.{List, [], _∷_, _++_, append-assoc, append-nil}
-use lib.Dec.{leb}
+use mathlib.Core.Path.{_≡_, refl, sym, ap, _∙_}
+use mathlib.Core.Bool.{true, false}
+use mathlib.Core.List.{List, [], _∷_, _++_, append-assoc}
 use lib.ListN.{length, set, getD, take, drop, length-append, length-set, length-drop, take-append-drop}
 use lib.Seq.{take-at, drop-at, set-at, drop-drop, drop-cons, length-take-le, take-suc}
 use borrow.Author.Tests.{le-leb, lt-leb}
-use Rattle.ground.specs.Lists.{pick}
 use Rattle.evaluate.specs.Segments.{flat}
 use Rattle.search.specs.Answers.{fitting}
 use Rattle.listing.specs.declared.Listing.{Listing}
-use Rattle.listing.specs.Inner.{toList, listsFrom, filledWith, Handed}
+use Rattle.listing.specs.Inner.{toList, listsFrom, Handed}
 
 -- ---- copying
 

@@ -2,9 +2,9 @@
 use Prim.Native.Nat.{ℕ, zero, suc, _+_, _-_, _*_, _≤_, _<_}
 use native.Mathlib.Nat.{add-zero, zero-add, sub-zero}
 use native.Mathlib.Omega.{arith}
-use mathlib.Core.Path.{_≡_, refl, sym, ap, ap₂, _∙_}
+use mathlib.Core.Path.{_≡_, refl, sym, ap, _∙_}
 use mathlib.Core.Bool.{Bool, true, false}
-use mathlib.Core.List.{List, [], _∷_, _++_, map}
+use mathlib.Core.List.{List, [], _∷_, map}
 use lib.ListN.{length, take, drop, length-append, length-drop, take-append-drop, length-map}
 use lib.Seq.{take-at, drop-drop, drop-append-add}
 use Rattle.image.specs.declared.Header.{Header}
@@ -15,17 +15,16 @@ use Rattle.panel.specs.Inner.{Accepted}
 use Rattle.evaluate.specs.Segments.{Assignment, nativeOf, whole, flat}
 use Rattle.evaluate.specs.Words.{encode}
 use Rattle.evaluate.specs.Check.{over}
-use Rattle.search.specs.declared.SearchBudget.{SearchBudget}
 use Rattle.search.specs.declared.Tally.{Tally}
 use Rattle.search.specs.Walk.{Frame}
-use Rattle.search.specs.Run.{Walk, Walked, Ending}
+use Rattle.search.specs.Run.{Walked, Ending}
 use Rattle.search.specs.Answers.{fitting, written}
 use Rattle.enumeration.proofs.Room.{encode-length}
 use Rattle.walks.specs.Inner.{walkOf, before}
 use Rattle.writer.specs.Inner.{Written}
 use Rattle.writer.proofs.Laws.{native-length}
 use Rattle.listing.specs.declared.Listing.{Listing}
-use Rattle.listing.specs.Inner.{toList, listsFrom, filledWith, Handed, Outcome, comesTo, noneListed, Spared, Entered}
+use Rattle.listing.specs.Inner.{toList, Handed, comesTo, noneListed, Spared, Entered}
 
 -- ---- the words of an evaluation
 

@@ -1,29 +1,26 @@
 -- The listing under way: from one evaluation to the next, and its end.
-use Prim.Native.Nat.{ℕ, zero, suc, _+_, _-_, _*_, _≤_, _<_}
+use Prim.Native.Nat.{ℕ, _-_, _*_, _≤_, _<_}
 use native.Mathlib.Omega.{arith}
-use mathlib.Core.Path.{_≡_, refl, sym, ap, subst, _∙_}
-use mathlib.Core.List.{List, [], _∷_, _++_}
-use lib.ListN.{length, drop}
+use mathlib.Core.Path.{_≡_, refl, ap, subst, _∙_}
+use mathlib.Core.List.{List}
+use lib.ListN.{length}
 use Rattle.image.specs.declared.Header.{Header}
-use Rattle.image.specs.Panel.{Panel, panelOf}
+use Rattle.image.specs.Panel.{panelOf}
 use Rattle.evaluate.specs.declared.Segment.{Segment}
 use Rattle.evaluate.specs.Segments.{Assignment}
 use Rattle.evaluate.specs.Words.{encode}
-use Rattle.evaluate.specs.Properties.{Each}
 use Rattle.search.specs.declared.SearchBudget.{SearchBudget}
 use Rattle.search.specs.declared.Stop.{Stop}
-use Rattle.search.specs.Run.{Walk, Walked}
+use Rattle.search.specs.Run.{Walked}
 use Rattle.search.specs.Rooms.{frameWidth}
 use Rattle.frames.specs.Inner.{frameOf, stackOf}
 use Rattle.walks.specs.declared.Standing.{Standing}
-use Rattle.walks.specs.declared.Halt.{Halt}
 use Rattle.walks.specs.declared.Halt.the-variants.{Stopped, Due}
 use Rattle.walks.specs.declared.Pause.{Pause}
 use Rattle.walks.specs.Inner.{walkOf, toGo, before, endingOf, assigned, haltedAs, Walking, Paused}
 use Rattle.walks.specs.Inner.{Kept as Room}
 use Rattle.listing.specs.declared.Listing.{Listing}
-use Rattle.listing.specs.declared.Listed.{Listed}
-use Rattle.listing.specs.Inner.{comesTo, Fitting, Onward, Spared, Entered, Ended}
+use Rattle.listing.specs.Inner.{comesTo, Onward, Spared, Entered, Ended}
 use Rattle.listing.proofs.Rest.{spared-none, spared-on, spared-over, comes-one, comes-end}
 
 -- ---- one evaluation further

@@ -1,7 +1,7 @@
 -- Seeding under way, and its ends.
-use Prim.Native.Nat.{ℕ, zero, suc, _+_, _-_, _*_, _≤_, _<_}
+use Prim.Native.Nat.{ℕ, _+_, _≤_, _<_}
 use native.Mathlib.Omega.{arith}
-use mathlib.Core.Path.{_≡_, refl, sym, ap, subst, _∙_}
+use mathlib.Core.Path.{_≡_, refl, ap, subst, _∙_}
 use mathlib.Core.Bool.{Bool}
 use mathlib.Core.List.{List, [], _++_}
 use lib.ListN.{length, take}
@@ -12,19 +12,18 @@ use Rattle.image.specs.Image.{pathCounts}
 use Rattle.image.specs.Panel.{Panel, panelOf}
 use Rattle.image.proofs.Laws.{panel-families, families-length}
 use Rattle.panel.specs.Inner.{Accepted}
-use Rattle.evaluate.specs.Segments.{Assignment, nativeOf}
+use Rattle.evaluate.specs.Segments.{nativeOf}
 use Rattle.evaluate.specs.Words.{encode}
 use Rattle.search.specs.declared.SearchBudget.{SearchBudget}
 use Rattle.search.specs.declared.Tally.{Tally}
 use Rattle.search.specs.declared.Stop.{Stop}
-use Rattle.search.specs.Run.{Walk, Walked, walkFrom, walk}
+use Rattle.search.specs.Run.{Walked, walkFrom, walk}
 use Rattle.search.specs.Rooms.{stackWords, pendingWords}
 use Rattle.frames.specs.Inner.{frameOf, stackOf}
 use Rattle.frames.proofs.Laws.{stack-none}
 use Rattle.walks.specs.Inner.{before, walkOf, endingOf, usedBy, seedWalk}
 use Rattle.walks.proofs.Seeds.{seed-one}
 use Rattle.listing.specs.declared.Listing.{Listing}
-use Rattle.listing.specs.declared.Listed.{Listed}
 use Rattle.listing.specs.declared.Seeded.{Seeded}
 use Rattle.listing.specs.Inner.{comesTo, Onward, Spared, Entered, Ended, Sown}
 use Rattle.listing.proofs.Rest.{spared-none, spared-on, comes-one, comes-end}

@@ -1,9 +1,9 @@
 -- The listing as a whole: seeding, then the walk over all families; and its answer.
-use Prim.Native.Nat.{ℕ, zero, suc, _+_, _-_, _*_, _≤_, _<_}
+use Prim.Native.Nat.{ℕ, _+_, _-_, _*_, _≤_, _<_}
 use native.Mathlib.Nat.{sub-zero}
 use native.Mathlib.Omega.{arith}
 use mathlib.Core.Path.{_≡_, refl, sym, ap, subst, _∙_}
-use mathlib.Core.Bool.{Bool, true, false}
+use mathlib.Core.Bool.{true, false}
 use mathlib.Core.List.{List, [], _∷_, _++_}
 use lib.ListN.{length, take, drop, replicate, length-replicate}
 use Rattle.ground.specs.Lists.{sum}
@@ -13,17 +13,16 @@ use Rattle.image.specs.Panel.{Panel, panelOf}
 use Rattle.image.proofs.Laws.{panel-families, families-length}
 use Rattle.panel.specs.Inner.{Accepted}
 use Rattle.evaluate.specs.Segments.{flat}
-use Rattle.evaluate.specs.Properties.{Each}
 use Rattle.evaluate.specs.Check.{over}
 use Rattle.search.specs.declared.SearchBudget.{SearchBudget}
 use Rattle.search.specs.declared.Tally.{Tally}
 use Rattle.search.specs.declared.ListReply.{ListReply}
 use Rattle.search.specs.declared.Stop.{Stop}
 use Rattle.search.specs.declared.Stop.the-variants.{Exhausted, Work, Evaluation, Frontier}
-use Rattle.search.specs.Walk.{Place, Frame}
-use Rattle.search.specs.Run.{Ending, Walk, Walked, going, root, run, walkFrom, walk}
+use Rattle.search.specs.Walk.{Place}
+use Rattle.search.specs.Run.{Walk, Walked, going, root, run, walkFrom, walk}
 use Rattle.search.specs.Counters.{stopOf, statusOf, statusNumber}
-use Rattle.search.specs.Rooms.{frameWidth, slotWidth, framesLeft}
+use Rattle.search.specs.Rooms.{frameWidth, slotWidth}
 use Rattle.search.specs.Answers.{written, listReplyOf}
 use Rattle.enumeration.proofs.Room.{handed-fits}
 use Rattle.frames.specs.Inner.{put, frameOf, stackOf}
@@ -35,7 +34,7 @@ use Rattle.walks.proofs.Seeds.{seed-evaluation, seed-work, seed-none, seed-all}
 use Rattle.listing.specs.declared.Listing.{Listing}
 use Rattle.listing.specs.declared.Listed.{Listed}
 use Rattle.listing.specs.declared.Seeded.{Seeded}
-use Rattle.listing.specs.Inner.{Outcome, comesTo, noneListed, seedTally, Framed, Onward, Spared, Ended, Sown, Told}
+use Rattle.listing.specs.Inner.{Outcome, comesTo, noneListed, seedTally, FrameRoom, Onward, Ended, Sown, Told}
 use Rattle.listing.proofs.Rest.{spared-on, comes-start}
 use Rattle.listing.proofs.Running.{room-on}
 use Rattle.listing.proofs.Sowing.{sown-ended}
@@ -46,7 +45,7 @@ pub none-before : (l : List ℕ) → 0 ≡ sum (take 0 l)
 unfolding sum
 none-before l = refl
 
-pub root-room : {b : SearchBudget} {fs : List ℕ} → Framed b fs → frameWidth ≤ length fs
+pub root-room : {b : SearchBudget} {fs : List ℕ} → FrameRoom b fs → frameWidth ≤ length fs
 root-room f = let r = f .room in omega arith
 
 module _ {s : List ℕ} {h : Header} {b : SearchBudget} {v : ℕ} {l : Listing} {xs out xs′ out′ : List ℕ} {r : Seeded} {t : Tally} (fs : List ℕ) (acc : Accepted s h) (w : Sown (panelOf s) h b v l xs out xs′ out′ r)
@@ -75,7 +74,7 @@ module _ {s : List ℕ} {h : Header} {b : SearchBudget} {v : ℕ} {l : Listing} 
       sown-ended fs Exhausted t 0 true w refl refl
       (seed-none (panelOf s) b (r .natives) (let c = counts in omega arith) (omega arith) ∙ ap (λ (k : Walk). record { ending = endingOf Exhausted (frameOf fs 0 .place); walk = k }) no-frame)
 
-  module _ (f : h .families ≤ r .natives) (some : h .families ≡ 0 → ⊥) (room : Framed b fs) (gs : List ℕ) (eg : gs ≡ put fs 0 (rootOf (panelOf s) 0)) where
+  module _ (f : h .families ≤ r .natives) (some : h .families ≡ 0 → ⊥) (room : FrameRoom b fs) (gs : List ℕ) (eg : gs ≡ put fs 0 (rootOf (panelOf s) 0)) where
     first : t .families < h .families
     first = rw et (omega arith)
 
@@ -165,7 +164,7 @@ module _ (p : Panel) (b : SearchBudget) (v from : ℕ) (fs xs out fs₁ xs₁ ou
   same-stop : e .stop ≡ stopOf (walk p b .ending)
   same-stop = sym (stop-of (e .stop) (frameOf fs₁ (e .at .depth) .place)) ∙ ap stopOf same-ending
 
-  pub listing-told : {fs′ xs′ : List ℕ} {r : ListReply} → Framed b fs → v ≡ slotWidth p b → fs′ ≡ zeroed (usedBy (e .stop) (e .at .depth) * frameWidth) ((b .«max_frontier» + 1) * frameWidth) fs₁
+  pub listing-told : {fs′ xs′ : List ℕ} {r : ListReply} → FrameRoom b fs → v ≡ slotWidth p b → fs′ ≡ zeroed (usedBy (e .stop) (e .at .depth) * frameWidth) ((b .«max_frontier» + 1) * frameWidth) fs₁
       → xs′ ≡ take 0 xs₁ ++ (replicate (v - 0) 0 ++ drop v xs₁)
       → r ≡ record { refusal = 0; place = 0; status = statusNumber (statusOf (e .stop) false); written = e .listing .written; words = e .listing .words; evaluations = e .at .tally .evaluations }
       → Told p b from fs xs out fs′ xs′ out′ r

@@ -1,5 +1,5 @@
 -- The listing's evaluation, one at a time; nothing here is part of a public promise.
-use Prim.Native.Nat.{ℕ, zero, suc, _+_, _-_, _*_, _≤_, _<_}
+use Prim.Native.Nat.{ℕ, _+_, _-_, _*_, _≤_, _<_}
 use mathlib.Core.Path.{_≡_}
 use mathlib.Core.Bool.{Bool, true, false}
 use mathlib.Core.List.{List, [], _∷_, _++_, map}
@@ -19,7 +19,7 @@ use Rattle.search.specs.declared.Tally.{Tally}
 use Rattle.search.specs.declared.ListReply.{ListReply}
 use Rattle.search.specs.Budget.{budgetRefusal}
 use Rattle.search.specs.Walk.{Frame}
-use Rattle.search.specs.Run.{Ending, Walk, Walked, walkFrom, walk}
+use Rattle.search.specs.Run.{Ending, Walked, walkFrom, walk}
 use Rattle.search.specs.Rooms.{frameWidth, stackWords, pendingWords, framesLeft, slotWidth, listRoomsRefusal}
 use Rattle.search.specs.Answers.{ListRooms, fitting, written, refusedList, listReplyOf, listedIn}
 use Rattle.frames.specs.Inner.{frameOf, stackOf}
@@ -133,7 +133,7 @@ pub record Sown (p : Panel) (h : Header) (b : SearchBudget) (v : ℕ) (l : Listi
 -- ---- the answer
 
 -- a budget within its bounds, and a frame room that is long enough
-pub record Framed (b : SearchBudget) (frames : List ℕ) : Type 0 where
+pub record FrameRoom (b : SearchBudget) (frames : List ℕ) : Type 0 where
   pub some : 0 < b .«max_frontier»
   pub small : b .«max_frontier» ≤ 1024
   pub room : (b .«max_frontier» + 1) * frameWidth ≤ length frames

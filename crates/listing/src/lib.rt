@@ -11,10 +11,10 @@ ghost use Rattle.evaluate.specs.Segments.{nativeOf};
 ghost use Rattle.evaluate.specs.Words.{encode};
 ghost use Rattle.search.specs.Rooms.{frameWidth, slotWidth};
 ghost use Rattle.search.specs.Run.{walk};
-ghost use Rattle.walks.specs.Inner.{assigned, toGo, Walking};
 ghost use Rattle.search.specs.Counters.{statusOf, statusNumber};
 ghost use Rattle.search.specs.Answers.{ListRooms, refusedList, listAnswer, listRooms};
-ghost use Rattle.listing.specs.Inner.{Handed, noneListed, seedTally, Framed, Onward, Entered, Ended, Sown, Told, Replied, listPanelRefusal};
+ghost use Rattle.walks.specs.Inner.{assigned, toGo, Walking};
+ghost use Rattle.listing.specs.Inner.{Handed, seedTally, FrameRoom, Onward, Entered, Ended, Sown, Told, Replied, listPanelRefusal};
 use evaluate::Segment;
 use search::ListReply;
 use search::SearchBudget;
@@ -215,7 +215,7 @@ fn list_families(
     out: &mut [u64],
     first: Listing,
 ) -> Listed
-    requires { ⌜ Accepted (now image) h × Started (now image) h (now starts) × Framed b (now frames) ⌝ }
+    requires { ⌜ Accepted (now image) h × Started (now image) h (now starts) × FrameRoom b (now frames) ⌝ }
     requires { ⌜ Onward v (walk (panelOf (now image)) b) first (now slot) (now out) ⌝ }
     ensures { λ r. ⌜ Ended b v (walk (panelOf (now (image .entry))) b) first (now (frames .entry)) (now (slot .entry)) (now (out .entry)) (now (frames .exit)) (now (slot .exit)) (now (out .exit)) r ⌝ }
 {
@@ -282,7 +282,7 @@ fn list_in(
     slot: &mut [u64],
     out: &mut [u64],
 ) -> ListReply
-    requires { ⌜ Accepted (now image) h × Framed b (now frames) ⌝ }
+    requires { ⌜ Accepted (now image) h × FrameRoom b (now frames) ⌝ }
     requires { ⌜ (v ≡ slotWidth (panelOf (now image)) b) × (v ≤ length (now slot)) ⌝ }
     ensures { λ r. ⌜ Told (panelOf (now (image .entry))) b from (now (frames .entry)) (now (slot .entry)) (now (out .entry)) (now (frames .exit)) (now (slot .exit)) (now (out .exit)) r ⌝ }
 {

@@ -4,10 +4,15 @@ use mathlib.Core.Path.{_≡_, sym, _∙_}
 use mathlib.Core.Bool.{Bool}
 use mathlib.Core.List.{List}
 use lib.ListN.{length}
+use lib.Ieee.{Float}
 use Rattle.evaluate.specs.declared.AssignmentReply.{AssignmentReply}
 use Rattle.evaluate.specs.Check.{checkAnswer, checkOut}
 use Rattle.graph.specs.Check.{checked}
 use Rattle.graph.specs.Lookups.{portAnswer, bucketAnswer}
+use Rattle.search.specs.declared.SearchBudget.{SearchBudget}
+use Rattle.search.specs.declared.SearchReply.{SearchReply}
+use Rattle.search.specs.declared.ListReply.{ListReply}
+use Rattle.search.specs.Answers.{Rooms, ListRooms, searchAnswer, searchRooms, listAnswer, listRooms}
 use Rattle.panel_routes.specs.Replies.{panelReply, portReply, bucketReply}
 use Rattle.panel_routes.specs.declared.PanelReply.{PanelReply}
 use Rattle.panel_routes.specs.declared.PortReply.{PortReply}
@@ -32,3 +37,17 @@ check-one s ws out q r = one
 
 pub out-one : (s ws out xs ys : List ℕ) → xs ≡ checkOut s ws out → ys ≡ checkOut s ws out → xs ≡ ys
 out-one s ws out xs ys = one
+
+-- the reply of the listing, and its rooms afterwards
+pub list-one : (s : List ℕ) (b : SearchBudget) (from : ℕ) (rooms : ListRooms) (q r : ListReply) → q ≡ listAnswer s b from rooms → r ≡ listAnswer s b from rooms → q ≡ r
+list-one s b from rooms q r = one
+
+pub list-rooms-one : (s : List ℕ) (b : SearchBudget) (from : ℕ) (rooms x y : ListRooms) → x ≡ listRooms s b from rooms → y ≡ listRooms s b from rooms → x ≡ y
+list-rooms-one s b from rooms x y = one
+
+-- the reply of the search, and its rooms afterwards
+pub search-one : (s : List ℕ) (b : SearchBudget) (xs : List Float) (rooms : Rooms) (q r : SearchReply) → q ≡ searchAnswer s b xs rooms → r ≡ searchAnswer s b xs rooms → q ≡ r
+search-one s b xs rooms q r = one
+
+pub search-rooms-one : (s : List ℕ) (b : SearchBudget) (xs : List Float) (rooms x y : Rooms) → x ≡ searchRooms s b xs rooms → y ≡ searchRooms s b xs rooms → x ≡ y
+search-rooms-one s b xs rooms x y = one

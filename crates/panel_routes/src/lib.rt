@@ -4,6 +4,7 @@ ghost use Rattle.graph.specs.Check.{checked};
 ghost use Rattle.graph.specs.Lookups.{portAnswer, bucketAnswer};
 ghost use lib.ListN.{length};
 ghost use Rattle.evaluate.specs.Check.{checkAnswer, checkOut};
+ghost use Rattle.search.specs.Answers.{Rooms, searchAnswer, searchRooms, ListRooms, listAnswer, listRooms};
 ghost use Rattle.panel_routes.specs.Replies.{panelReply, portReply, bucketReply};
 
 // Refusal 0: none. Fields that an answer does not use are 0.
@@ -136,4 +137,34 @@ pub extern "C" fn panel_routes_check_assignment(
     ensures { λ r. ⌜ now (out .exit) ≡ checkOut (now (image .entry)) (now (words .entry)) (now (out .entry)) ⌝ }
 {
     assignment::check_assignment(image, words, out)
+}
+
+#[no_mangle]
+pub extern "C" fn panel_routes_list(
+    image: &[u8],
+    budget: search::SearchBudget,
+    from: u64,
+    frames: &mut [u64],
+    slot: &mut [u64],
+    out: &mut [u64],
+) -> search::ListReply
+    ensures { λ r. ⌜ r ≡ listAnswer (now (image .entry)) budget from (record { frames = now (frames .entry); slot = now (slot .entry); out = now (out .entry) }) ⌝ }
+    ensures { λ r. ⌜ _≡_ {A = ListRooms} (record { frames = now (frames .exit); slot = now (slot .exit); out = now (out .exit) }) (listRooms (now (image .entry)) budget from (record { frames = now (frames .entry); slot = now (slot .entry); out = now (out .entry) })) ⌝ }
+{
+    listing::list(image, budget, from, frames, slot, out)
+}
+
+#[no_mangle]
+pub extern "C" fn panel_routes_search(
+    image: &[u8],
+    budget: search::SearchBudget,
+    scores: &[f64],
+    frames: &mut [u64],
+    kept: &mut [u64],
+    kept_scores: &mut [f64],
+) -> search::SearchReply
+    ensures { λ r. ⌜ r ≡ searchAnswer (now (image .entry)) budget (now (scores .entry)) (record { frames = now (frames .entry); kept = now (kept .entry); scores = now («kept_scores» .entry) }) ⌝ }
+    ensures { λ r. ⌜ _≡_ {A = Rooms} (record { frames = now (frames .exit); kept = now (kept .exit); scores = now («kept_scores» .exit) }) (searchRooms (now (image .entry)) budget (now (scores .entry)) (record { frames = now (frames .entry); kept = now (kept .entry); scores = now («kept_scores» .entry) })) ⌝ }
+{
+    searching::search(image, budget, scores, frames, kept, kept_scores)
 }

@@ -17,6 +17,7 @@ use Rattle.evaluate.specs.Words.{bit, segmentWords, routeWords, encode}
 use Rattle.evaluate.specs.Check.{over}
 use Rattle.evaluate.proofs.Lists.{append-each}
 use Rattle.words.specs.Inner.{segmentOf, segmentsOf, routesOf, assignmentOf}
+use Rattle.words.proofs.Writing.{segment-words-length}
 use Rattle.search.specs.declared.SearchBudget.{SearchBudget}
 use Rattle.search.specs.Run.{walk}
 use Rattle.search.specs.Keep.{Kept, nothing, Evaluated, scoreOf, sameEvaluated, lowers, near, has, replaced, adding, lowered, added, keepOne, keepAll, evaluated}
@@ -70,10 +71,6 @@ pub record Starts (a : Assignment) (ws : List ℕ) : Type 0 where
   pub rest : List ℕ
   pub is : ws ≡ encode a ++ rest
 
-segment-words : (r : Route) → length (segmentWords r) ≡ 4 * length r
-segment-words [] = refl
-segment-words (s ∷ r) = let h = segment-words r in omega arith
-
 back : (s : Segment) (ws : List ℕ) → segmentOf (s .source ∷ s .start ∷ s .end ∷ bit (s .reverse) ∷ ws) ≡ s
 unfolding segmentOf
 back s ws = ap (λ (r : Bool). record { source = s .source; start = s .start; end = s .end; reverse = r }) (go (s .reverse))
@@ -90,7 +87,7 @@ segments-back (s ∷ r) ws = ap₂ (λ (t : Segment) (l : Route). t ∷ l) (back
 past : (r : Route) (rs : List Route) (ws : List ℕ) → drop (1 + 4 * length r) (length r ∷ ((segmentWords r ++ routeWords rs) ++ ws)) ≡ routeWords rs ++ ws
 past r rs ws =
     let q : 1 + 4 * length r ≡ suc (4 * length r) = omega arith in
-    rw (q, append-assoc (segmentWords r) (routeWords rs) ws) (drop-at (segmentWords r) (routeWords rs ++ ws) (4 * length r) (segment-words r))
+    rw (q, append-assoc (segmentWords r) (routeWords rs) ws) (drop-at (segmentWords r) (routeWords rs ++ ws) (4 * length r) (segment-words-length r))
 
 routes-back : (rs : List Route) (ws : List ℕ) → routesOf (length rs) (routeWords rs ++ ws) ≡ rs
 unfolding routesOf
@@ -103,7 +100,7 @@ begin-words : (rs : List Route) (ws : List ℕ) → Begin (length rs) (routeWord
 unfolding Begin
 begin-words [] ws = tt
 begin-words (r ∷ rs) ws =
-    let n = segment-words r in
+    let n = segment-words-length r in
     let m : length ((segmentWords r ++ routeWords rs) ++ ws) ≡ length (segmentWords r) + length (routeWords rs) + length ws
     = length-append (segmentWords r ++ routeWords rs) ws ∙ rw (length-append (segmentWords r) (routeWords rs)) in
     (omega arith, subst (Begin (length rs)) (sym (past r rs ws)) (begin-words rs ws))

@@ -13,6 +13,7 @@ use borrow.Author.Tests.{lt-ltb, le-ltb}
 use Rattle.ground.specs.Lists.{pick}
 use Rattle.evaluate.specs.Check.{over}
 use Rattle.search.specs.Sheet.{digits, decimal, field}
+use Rattle.words.proofs.Writing.{sets-append}
 use Rattle.text.specs.Inner.{Put, lastDigit, Digits}
 
 -- ---- bytes that are set one behind the other
@@ -20,10 +21,6 @@ use Rattle.text.specs.Inner.{Put, lastDigit, Digits}
 sets-out : (vs xs : List ℕ) (i : ℕ) → length xs ≤ i → sets xs i vs ≡ xs
 sets-out [] xs i h = refl
 sets-out (a ∷ vs) xs i h = rw (set-out xs i a h) (sets-out vs xs (suc i) (omega arith))
-
-sets-append : (a b xs : List ℕ) (i : ℕ) → sets xs i (a ++ b) ≡ sets (sets xs i a) (i + length a) b
-sets-append [] b xs i = let z : i + 0 ≡ i = omega arith in rw z
-sets-append (x ∷ a) b xs i = let z : i + suc (length a) ≡ suc i + length a = omega arith in rw z (sets-append a b (set xs i x) (suc i))
 
 -- ---- one piece behind the other
 

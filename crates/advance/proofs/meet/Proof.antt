@@ -1,5 +1,5 @@
 use borrow.Author.Needs.{needs}
-use Rattle.advance.proofs.Laws.{meets-itself, meets-down, behind-low, meets-blocked, behind-ok}
+use Rattle.advance.proofs.Laws.{behind-low, behind-ok, meets-blocked, meets-down, meets-itself}
 use Rattle.advance.proofs.meet.Statement.{statement}
 use Rattle.advance.proofs.meet.Tie as tie
 

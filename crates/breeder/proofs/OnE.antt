@@ -1,0 +1,28 @@
+-- The breeder's sentence on panel E: every premise is met.
+use mathlib.Core.Path.{_≡_, ap, _∙_}
+use Rattle.image.specs.Panel.{panelOf}
+use Rattle.search.specs.declared.SearchReply.{SearchReply}
+use Rattle.search.specs.Answers.{Rooms, searchAnswer, searchRooms}
+use Rattle.graph.specs.PanelE.{panelE}
+use Rattle.certificate.specs.Examples.{scores, rooms}
+use Rattle.certificate.specs.Terms.{Exhausted, NativesThenLegal, handedOver}
+use Rattle.certificate.proofs.OnE.{default, admitted-E, exhausted-E, searched-E, certified-E}
+use Rattle.breeder.specs.Sentence.{Asked, Complete, Sheet}
+use Rattle.breeder.proofs.Asked.{sentence}
+
+-- whatever the exported search replies on E, and leaves in its rooms
+module _ (r : SearchReply) (after : Rooms) (er : r ≡ searchAnswer panelE default scores rooms) (ea : after ≡ searchRooms panelE default scores rooms) where
+  pub asked-E : Asked panelE default scores r
+  asked-E = record { passed = ap (λ (q : SearchReply). q .refusal) er ∙ searched-E; families = admitted-E .families; agreed = admitted-E .agreed }
+
+  pub told-exhausted-E : Exhausted r
+  told-exhausted-E = rw er exhausted-E
+
+  pub evaluated-E : NativesThenLegal (panelOf panelE) (handedOver panelE default)
+  evaluated-E = sentence panelE default scores rooms after r er ea .evaluated asked-E told-exhausted-E
+
+  pub sheet-E : Sheet panelE default scores after r
+  sheet-E = sentence panelE default scores rooms after r er ea .sheet asked-E told-exhausted-E
+
+  pub complete-E : Complete panelE default scores (sheet-E .incumbent) (sheet-E .tied)
+  complete-E = sheet-E .complete (ap (λ (q : SearchReply). q .status) er ∙ certified-E)
