@@ -8,6 +8,9 @@ ghost use Rattle.search.specs.Job.{jobOk, doubleOf, defaultBudget, budgetFrom, 
 ghost use Rattle.jobs.specs.Inner.{Sound, Scored};
 use search::SearchBudget;
 
+// The bytes of the three words that a job begins with.
+pub const HEAD: usize = 24;
+
 // The bytes and the scores that a job may have.
 pub const BYTES: usize = 24576;
 
@@ -25,7 +28,7 @@ fn adds_up(n: usize, panel: u64, words: u64, scores: u64) -> bool
     requires { ⌜ (panel ≤ 24576) × (words ≤ 5) × (scores ≤ 1024) ⌝ }
     ensures { λ r. ⌜ r ≡ eqb n (24 + panel + 8 * words + 8 * scores) ⌝ }
 {
-    n as u64 == 24 + panel + 8 * words + 8 * scores
+    n as u64 == HEAD as u64 + panel + 8 * words + 8 * scores
 }
 
 // Whether it is a job; 16, where it is not.
@@ -33,7 +36,7 @@ pub fn is_job(job: &[u8]) -> bool
     ensures { λ r. ⌜ r ≡ jobOk (now (job .entry)) ⌝ }
 {
     let n = job.len();
-    if n < 24 {
+    if n < HEAD {
         return false;
     }
     if BYTES < n {
@@ -43,10 +46,10 @@ pub fn is_job(job: &[u8]) -> bool
     let words = storage::word_at(job, 8);
     let scores = storage::word_at(job, 16);
     // A panel of more bytes than a job may have does not add up.
-    if 24576 < panel {
+    if (BYTES as u64) < panel {
         return false;
     }
-    if 1024 < scores {
+    if (SCORES as u64) < scores {
         return false;
     }
     if is_budget_count(words) {
@@ -110,7 +113,7 @@ pub fn budget_of(job: &[u8]) -> SearchBudget
     if words == 0 {
         default_budget()
     } else {
-        budget_at(job, 24 + panel)
+        budget_at(job, HEAD + panel)
     }
 }
 

@@ -95,9 +95,10 @@ fn answer_sound(job: &[u8], out: &mut [u8]) -> usize
     let n = storage::word_at(job, 16) as usize;
     let b = jobs::budget_of(job);
     let mut scores = no_scores();
-    let end = 24 + panel;
+    let start = jobs::HEAD;
+    let end = start + panel;
     jobs::read_scores(job, end + 8 * words, n, &mut scores);
-    answer_panel(&job[24..end], b, &scores[..n], out)
+    answer_panel(&job[start..end], b, &scores[..n], out)
 }
 
 fn answer(job: &[u8], out: &mut [u8]) -> usize

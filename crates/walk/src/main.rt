@@ -1,8 +1,10 @@
 // The walk program (01, "The program"): reads a job from standard input, and prints its sheet or its refusal.
 
 // One byte more than a job may have, so that a longer one is seen to be too long.
-fn input() -> [u8; 24577] {
-    [0u8; 24577]
+const INPUT: usize = jobs::BYTES + 1;
+
+fn input() -> [u8; INPUT] {
+    [0u8; INPUT]
 }
 
 fn output() -> [u8; sheets::ROOM] {
