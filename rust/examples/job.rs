@@ -194,3 +194,50 @@ fn main() -> ExitCode {
         }
     }
 }
+
+#[cfg(test)]
+mod tests {
+    use super::*;
+    use std::path::Path;
+
+    fn file(name: &str) -> Vec<u8> {
+        fs::read(Path::new(env!("CARGO_MANIFEST_DIR")).join("../examples").join(name)).unwrap()
+    }
+
+    #[test]
+    fn the_examples_are_their_texts_and_give_their_sheets() {
+        for name in ["panel-e", "mosaic"] {
+            let text = String::from_utf8(file(&format!("{name}.txt"))).unwrap();
+            let bytes = file(&format!("{name}.job"));
+            assert_eq!(pack(&text).unwrap(), bytes);
+            assert_eq!(pack(&unpack(&bytes).unwrap()).unwrap(), bytes);
+            let job = Job::from_bytes(&bytes).unwrap();
+            let sheet = job.panel.search_with_scores(job.budget.unwrap_or_default(), &job.scores).unwrap();
+            assert_eq!(sheet.to_string().into_bytes(), file(&format!("{name}.sheet")));
+        }
+    }
+
+    #[test]
+    fn numbers_keep_their_bits() {
+        let panel = PanelBuilder::new(1).lane(1, 7).build().unwrap();
+        let patterns = [0, 1 << 63, 1, 0x7ff0_0000_0000_0000, 0xfff8_0000_0000_0001, 0x3fb9_9999_9999_999a];
+        let scores: Vec<f64> = patterns.map(f64::from_bits).to_vec();
+        let budget = SearchBudget { max_work: 0, tie_width: f64::NAN, ..SearchBudget::default() };
+        let bytes = Job { panel, budget: Some(budget), scores }.to_bytes().unwrap();
+        assert_eq!(pack(&unpack(&bytes).unwrap()).unwrap(), bytes);
+    }
+
+    #[test]
+    fn what_is_no_text() {
+        let said = |text: &str| pack(text).unwrap_err().to_string();
+        assert_eq!(said("k 1\nlane a 1 0\nfamily b"), "line 3: no lane is named b above");
+        assert_eq!(said("lane a 1 0\nk 1"), "line 2: k comes first");
+        assert_eq!(said("k 1\nlane a 1 0\nlane a 1 0"), "line 3: a second lane a");
+        assert_eq!(said("k 1 # letters\nlane a 1"), "line 2: no such line");
+        assert_eq!(said("k 1\nlane a 1 0\nport A a 0 *"), "line 3: no such line");
+        assert_eq!(said("k 1\nlane a 1 0\nport N a 0 +"), "port 0: its word is not k letters from ACGT");
+        assert!(said("k 1\nlane a x 0").starts_with("line 2: "));
+        let many = "score 0\n".repeat(1_025);
+        assert!(said(&format!("k 1\nlane a 1 0\n{many}")).starts_with("refused 16 0"));
+    }
+}
