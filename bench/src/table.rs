@@ -30,15 +30,14 @@ fn milliseconds(seconds: Option<f64>) -> String {
     seconds.map_or("".into(), |s| format!("{:.2}", s * 1e3))
 }
 
-/// How many times as fast as this we are.
+/// The other's time over ours, to two figures at least.
 fn ratio(ours: f64, other: Option<f64>) -> String {
-    other.map_or("".into(), |o| {
-        if o / ours < 10.0 {
-            format!("{:.2}", o / ours)
-        } else {
-            format!("{:.0}", o / ours)
-        }
-    })
+    let figures = |x: f64| match x {
+        x if x < 0.1 => format!("{x:.4}"),
+        x if x < 10.0 => format!("{x:.2}"),
+        x => format!("{x:.0}"),
+    };
+    other.map_or("".into(), |o| figures(o / ours))
 }
 
 impl Table {

@@ -1,6 +1,7 @@
 //! The exported calls of libpanel_routes.a, each behind a safe function. A pointer and its
 //! length are always those of one slice, so that a call reads and writes only what it was
-//! lent; and what a call may write to is lent as `&mut`, so that nothing overlaps it.
+//! lent (of an empty slice nothing); what a call may write to is lent as `&mut`, so that
+//! nothing overlaps it. The calls ask nothing else: each checks its input itself.
 use crate::{Refusal, SearchBudget};
 use std::ops::Range;
 

@@ -25,7 +25,6 @@ pub struct Lane {
 }
 
 /// The header's words, in their order; behind each offset stands the list of that name.
-#[derive(Clone, Copy)]
 enum Header {
     K,
     Lanes = 1,

@@ -12,8 +12,8 @@
 //! # Panel E
 //!
 //! Two lanes of 10 bases, one family with lane 0 as its only path, two words with a forward port
-//! on each lane. The score counts bases that disagree with the line: here 5 for the native
-//! lane, 4 for the mosaic that takes bases 6 to 8 of lane 1.
+//! on each lane. Scores come from your likelihood; this toy takes half a point off for each
+//! switch: 5 for the native lane, 4 for the mosaic with bases 6 to 8 of lane 1.
 //!
 //! ```
 //! use panel_routes::{PanelBuilder, SearchBudget, Status};
