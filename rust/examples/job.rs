@@ -26,6 +26,8 @@ use std::{
 
 type Outcome<T> = Result<T, Box<dyn Error>>;
 
+const USAGE: &str = "usage: job pack [TEXT] or job unpack [JOB]";
+
 /// What the lines of a text have said so far.
 struct Text {
     names: Vec<String>,
@@ -115,8 +117,7 @@ fn pack(text: &str) -> Outcome<Vec<u8>> {
 
 /// The segments of each route, routes apart by a stroke.
 fn in_a_line(assignment: &Assignment) -> String {
-    let route = |segments: Vec<String>| segments.join(", ");
-    let routes = assignment.routes().map(|r| route(r.map(|s| format!("lane{s}")).collect()));
+    let routes = assignment.routes().map(|r| r.map(|s| format!("lane{s}")).collect::<Vec<_>>().join(", "));
     format!("family {}: {}", assignment.family(), routes.collect::<Vec<_>>().join(" | "))
 }
 
@@ -174,12 +175,12 @@ fn run(words: &[String]) -> Outcome<()> {
     let (word, file) = match words {
         [word] => (word, None),
         [word, file] => (word, Some(file)),
-        _ => return Err("usage: job pack [TEXT] or job unpack [JOB]".into()),
+        _ => return Err(USAGE.into()),
     };
     let answer = match word.as_str() {
         "pack" => pack(std::str::from_utf8(&input(file)?)?)?,
         "unpack" => unpack(&input(file)?)?.into_bytes(),
-        _ => return Err("usage: job pack [TEXT] or job unpack [JOB]".into()),
+        _ => return Err(USAGE.into()),
     };
     Ok(io::stdout().write_all(&answer)?)
 }
