@@ -61,8 +61,8 @@
 //!
 //! # Stack
 //!
-//! The calls keep their tables on the stack, some hundred KiB: a thread with a smaller stack
-//! than Rust's default of 2 MiB should not make them.
+//! The calls keep their tables on the stack, up to half a MiB. On a thread with a smaller stack
+//! than that they end at its guard page, as too deep a recursion in Rust does.
 
 mod builder;
 mod evaluate;

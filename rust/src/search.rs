@@ -63,7 +63,7 @@ impl Panel<'_> {
     /// The assignments that the walk evaluates under a budget, in its order: the native one of
     /// each family, then the legal ones family by family. Refusals 11 and 12.
     ///
-    /// Only the three whole budgets of the walk matter; a listing keeps and discards nothing.
+    /// It keeps and discards nothing, but 11 and 12 look at the whole budget.
     pub fn assignments(&self, budget: SearchBudget) -> Result<Assignments<'_>, Refusal> {
         Assignments::new(self, budget)
     }
