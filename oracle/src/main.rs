@@ -1,23 +1,9 @@
 //! The original Rust as the judge of our answers. README.md says how to use it.
-mod bench;
-mod calls;
-mod compare;
-mod examples;
-mod features;
-mod gen;
-mod judge;
-mod library;
-mod outside;
-mod plain;
-mod record;
-mod rules;
-mod sample;
-mod shrink;
-mod spec;
-mod stand_in;
-
-use calls::{Call, Kind, KINDS};
-use compare::Run;
+use oracle::{
+    calls::{Call, Kind, KINDS},
+    compare::{self, Run},
+    examples, judge, large, outside, record, rules, sample,
+};
 use std::{
     fs,
     io::{self, Read, Write},
@@ -91,12 +77,7 @@ fn main() {
             let (from, out) = (number(from), number(out) as usize);
             show(image, Call::List { budget, from, frames: needs.frames, slot: needs.slot, out })
         }
-        ["time", pool, work] => {
-            let files = judge::FILES.get().map(|f| f.as_path());
-            bench::run(run.seed, number(pool), number(work), files, &run.subject());
-            true
-        }
-        ["large", ports] => bench::large(run.seed, number(ports), &run.subject()),
+        ["large", ports] => large::check(run.seed, number(ports), &run.subject()),
         ["image"] => {
             let job = input();
             let job = rules::job(&job).unwrap_or_else(|_| usage());

@@ -1,6 +1,6 @@
 //! Document 01 in plain safe Rust, in memory: the stand-in for the library while its
-//! calls are missing, and the "idiomatic safe Rust" of a benchmark. Ports are parsed once,
-//! the walk makes one turn of its loop for each unit and allocates nothing on the way.
+//! calls are missing. Ports are parsed once, the walk makes one turn of its loop for each
+//! unit and allocates nothing on the way.
 use std::ops::Range;
 
 pub const HEADER: usize = 80;

@@ -15,7 +15,8 @@ use Rattle.storage.specs.declared.Port.{Port}
 use Rattle.storage.specs.declared.Order.the-variants.{Less, Equal, Greater}
 use Rattle.storage.specs.Records.{noPort}
 use Rattle.storage.specs.Orders.{wordOrder, isEqual, sameWord}
-use Rattle.storage.proofs.OrderLaws.{SameUpTo, word-less, word-greater, word-next, word-equal}
+use Rattle.storage.specs.Inner.{SameUpTo}
+use Rattle.storage.proofs.OrderLaws.{word-less, word-greater, word-next, word-equal}
 use Rattle.image.specs.declared.Header.{Header}
 use Rattle.image.specs.declared.Entry.{Entry}
 use Rattle.image.specs.declared.Lane.{Lane}

@@ -14,6 +14,7 @@ use Rattle.ground.specs.Lists.{pick}
 use Rattle.storage.proofs.Laws.{drop-next}
 use Rattle.storage.specs.Records.{padded}
 use Rattle.storage.specs.Orders.{andThen, numOrder, flagOrder, wordOrder, portOrder, isLess, isEqual, isGreater, recordLt, samePort, turn, placeOf, place, placeLt, placeBefore, wordBelow, wordUpTo}
+use Rattle.storage.specs.Inner.{SameUpTo, beAt, BytesAt, Lead}
 use Rattle.storage.specs.declared.Port.{Port}
 use Rattle.storage.specs.declared.Order.{Order}
 use Rattle.storage.specs.declared.Order.the-variants.{Less, Equal, Greater}
@@ -35,10 +36,7 @@ word-step : (a b : List ℕ) (i : ℕ) → i < length a → i < length b → wor
 unfolding wordOrder
 word-step a b i la lb = rw (drop-next a i la, drop-next b i lb)
 
--- the first i letters are equal
-abbrev pub SameUpTo : List ℕ → List ℕ → ℕ → Type 0
-SameUpTo a b i = wordOrder a b ≡ wordOrder (drop i a) (drop i b)
-
+-- the first i letters are equal (SameUpTo)
 module _ (n : ℕ) (a b : List ℕ) (i : ℕ) (la : length a ≡ n) (lb : length b ≡ n) (s : SameUpTo a b i) where
   step : i < n → wordOrder a b ≡ andThen (numOrder (getD a i 0) (getD b i 0)) (wordOrder (drop (i + 1) a) (drop (i + 1) b))
   step h = s ∙ word-step a b i (omega arith) (omega arith)
@@ -92,6 +90,75 @@ module _ (xs : List ℕ) (at : ℕ) (w : List ℕ) (i : ℕ) (room : at + length
 
   pub letters-equal : length w ≤ i → Equal ≡ wordOrder (take (length w) (drop at xs)) w
   letters-equal h = by-equal (length w) (take (length w) (drop at xs)) w i long refl s h
+
+-- ---- eight letters at a time, as numbers
+
+lead-less : (n a c : ℕ) (xs ys : List ℕ) (at bt : ℕ) → BytesAt n xs at → a < c → beAt n a xs at < beAt n c ys bt
+lead-less zero a c xs ys at bt h l = l
+lead-less (suc n) a c xs ys at bt h l = lead-less n (256 * a + getD xs at 0) (256 * c + getD ys bt 0) xs ys (at + 1) (bt + 1) (h .1) (let q = h .0 in omega arith)
+
+-- how two numbers stand to each other
+data Against (x y : ℕ) : Type 0 where
+  under : x < y → Against x y
+  level : x ≡ y → Against x y
+  over : y < x → Against x y
+
+against : (x y : ℕ) → Against x y
+against x y = go (ltb x y) refl (ltb y x) refl
+  where
+    go : (t : Bool) → ltb x y ≡ t → (u : Bool) → ltb y x ≡ u → Against x y
+    go true e u f = under (ltb-true x y e)
+    go false e true f = over (ltb-true y x f)
+    go false e false f = let a = ltb-false x y e in let b = ltb-false y x f in level (omega arith)
+
+module _ (xs : List ℕ) (at : ℕ) (w : List ℕ) (room : at + length w ≤ length xs) where
+  -- m letters from letter i on decide as the numbers do
+  pub record Decides (m i a : ℕ) : Type 0 where
+    pub less : beAt m a xs (at + i) < beAt m a w i → Less ≡ wordOrder (take (length w) (drop at xs)) w
+    pub greater : beAt m a w i < beAt m a xs (at + i) → Greater ≡ wordOrder (take (length w) (drop at xs)) w
+    pub equal : beAt m a w i ≤ beAt m a xs (at + i) → beAt m a xs (at + i) ≤ beAt m a w i → SameUpTo (take (length w) (drop at xs)) w (i + m)
+
+  decides-next : (m i a : ℕ) → i + suc m ≤ length w → BytesAt (suc m) xs (at + i) → BytesAt (suc m) w i → SameUpTo (take (length w) (drop at xs)) w i → Against (getD xs (at + i) 0) (getD w i 0)
+      → (SameUpTo (take (length w) (drop at xs)) w (i + 1) → Decides m (i + 1) (256 * a + getD xs (at + i) 0)) → Decides (suc m) i a
+  decides-next m i a h bx bw s (under l) ih =
+      let here : i < length w = omega arith in
+      let q = lead-less m (256 * a + getD xs (at + i) 0) (256 * a + getD w i 0) xs w (at + i + 1) (i + 1) (bx .1) (omega arith) in
+      record { less = λ k. letters-less xs at w i room s here l; greater = λ k. absurd (omega arith); equal = λ k g. absurd (omega arith) }
+  decides-next m i a h bx bw s (over l) ih =
+      let here : i < length w = omega arith in
+      let q = lead-less m (256 * a + getD w i 0) (256 * a + getD xs (at + i) 0) w xs (i + 1) (at + i + 1) (bw .1) (omega arith) in
+      record { less = λ k. absurd (omega arith); greater = λ k. letters-greater xs at w i room s here l; equal = λ k g. absurd (omega arith) }
+  decides-next m i a h bx bw s (level e) ih =
+      let here : i < length w = omega arith in
+      let next : at + i + 1 ≡ at + (i + 1) = omega arith in
+      let far : i + suc m ≡ i + 1 + m = omega arith in
+      let d = ih (letters-next xs at w i room s here (omega arith) (omega arith)) in
+      record {
+        less = λ k. d .less (rw (next, ← e) at k);
+        greater = λ k. d .greater (rw (next, ← e) at k);
+        equal = λ k g. rw far (d .equal (rw (next, ← e) at k) (rw (next, ← e) at g));
+      }
+
+  decides : (m i a : ℕ) → i + m ≤ length w → BytesAt m xs (at + i) → BytesAt m w i → SameUpTo (take (length w) (drop at xs)) w i → Decides m i a
+  decides zero i a h bx bw s =
+      let z : i + 0 ≡ i = omega arith in
+      record { less = λ l. absurd (omega arith); greater = λ l. absurd (omega arith); equal = λ l g. rw z s }
+  decides (suc m) i a h bx bw s =
+      let next : at + i + 1 ≡ at + (i + 1) = omega arith in
+      decides-next m i a h bx bw s (against (getD xs (at + i) 0) (getD w i 0)) (λ q. decides m (i + 1) (256 * a + getD xs (at + i) 0) (omega arith) (rw next at (bx .1)) (bw .1) q)
+
+  module _ (i x y : ℕ) (far : i + 8 ≤ length w) (lx : Lead xs (at + i) x) (ly : Lead w i y) (s : SameUpTo (take (length w) (drop at xs)) w i) where
+    eight : Decides 8 i 0
+    eight = decides 8 i 0 far (lx .bytes) (ly .bytes) s
+
+    pub leads-less : x < y → Less ≡ wordOrder (take (length w) (drop at xs)) w
+    leads-less l = eight .less (let a = lx .value in let b = ly .value in omega arith)
+
+    pub leads-greater : y < x → Greater ≡ wordOrder (take (length w) (drop at xs)) w
+    leads-greater l = eight .greater (let a = lx .value in let b = ly .value in omega arith)
+
+    pub leads-next : y ≤ x → x ≤ y → SameUpTo (take (length w) (drop at xs)) w (i + 8)
+    leads-next l g = eight .equal (let a = lx .value in let b = ly .value in omega arith) (let a = lx .value in let b = ly .value in omega arith)
 
 -- ---- padding keeps the order
 
@@ -270,6 +337,10 @@ not-greater : (o : Order) → not (isGreater o) ≡ true → (o ≡ Less) ⊎ (o
 not-greater Less e = inl refl
 not-greater Equal e = inr refl
 not-greater Greater e = inl cc
+
+pub below-up-to : (w : List ℕ) (p : Port) → wordBelow w p ≡ true → wordUpTo w p ≡ true
+unfolding wordBelow wordUpTo
+below-up-to w p t = let l = less-of (wordOrder (p .word) w) t in rw l
 
 pub up-to-before : (w : List ℕ) (p q : Port) → recordLt p q ≡ true → wordUpTo w q ≡ true → wordUpTo w p ≡ true
 unfolding wordUpTo

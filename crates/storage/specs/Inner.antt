@@ -6,12 +6,30 @@ use mathlib.Core.List.{List}
 use lib.ListN.{length, drop, getD}
 use Rattle.ground.specs.Lists.{each, rising}
 use Rattle.storage.specs.Records.{portOf, recordSize, longestWord}
-use Rattle.storage.specs.Orders.{recordLt}
+use Rattle.storage.specs.Orders.{wordOrder, recordLt}
 
 -- the n bytes from a place on, read one by one
 abbrev pub leAt : ℕ → List ℕ → ℕ → ℕ
 leAt zero xs at = 0
 leAt (suc n) xs at = getD xs at 0 + 256 * leAt n xs (at + 1)
+
+-- the n bytes from a place on as a number behind another, the first of them the highest
+abbrev pub beAt : ℕ → ℕ → List ℕ → ℕ → ℕ
+beAt zero high xs at = high
+beAt (suc n) high xs at = beAt n (256 * high + getD xs at 0) xs (at + 1)
+
+-- they are bytes
+abbrev pub BytesAt : ℕ → List ℕ → ℕ → Type 0
+BytesAt zero xs at = Unit
+BytesAt (suc n) xs at = (getD xs at 0 < 256) × BytesAt n xs (at + 1)
+
+pub record Lead (xs : List ℕ) (at r : ℕ) : Type 0 where
+  pub value : r ≡ beAt 8 0 xs at
+  pub bytes : BytesAt 8 xs at
+
+-- two words that are the same up to letter i
+abbrev pub SameUpTo : List ℕ → List ℕ → ℕ → Type 0
+SameUpTo a b i = wordOrder a b ≡ wordOrder (drop i a) (drop i b)
 
 -- a byte as a number: the same number, below 256
 pub record Widened (x r : ℕ) : Type 0 where

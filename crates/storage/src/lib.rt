@@ -6,7 +6,7 @@ ghost use Rattle.ground.specs.Lists.{each, count};
 ghost use Rattle.storage.specs.Bytes.{number};
 ghost use Rattle.storage.specs.Records.{padded, portOf, cutOffset, cutOf, sameTurn, standsAt, noPort, recordSize, longestWord};
 ghost use Rattle.storage.specs.Orders.{andThen, numOrder, flagOrder, wordOrder, portOrder, isLess, isEqual, isGreater, recordLt, samePort, placeLt, placeBefore, wordBelow, wordUpTo, bucketOf};
-ghost use Rattle.storage.specs.Inner.{leAt, Widened, Records, Sorted, Offset};
+ghost use Rattle.storage.specs.Inner.{leAt, Lead, Widened, SameUpTo, Records, Sorted, Offset};
 
 // ---- words
 
@@ -367,12 +367,29 @@ pub fn is_before(
 
 // ---- buckets
 
-// The order of the k letters at a byte offset and a word of k letters.
-fn letters_order(image: &[u8], at: usize, word: &[u8]) -> Order
-    requires { ⌜ at + length (now word) ≤ length (now image) ⌝ }
+// Eight bytes as a number, the first of them the highest: such numbers are in the order of the bytes.
+fn lead_at(s: &[u8], at: usize) -> u64
+    requires { ⌜ at + 8 ≤ length (now s) ⌝ }
+    ensures { λ r. ⌜ Lead (now (s .entry)) at r ⌝ }
+{
+    let a1 = at + 1;
+    let a2 = a1 + 1;
+    let a3 = a2 + 1;
+    let a4 = a3 + 1;
+    let a5 = a4 + 1;
+    let a6 = a5 + 1;
+    let a7 = a6 + 1;
+    let high = 256 * (256 * (256 * wide(s[at]) + wide(s[a1])) + wide(s[a2])) + wide(s[a3]);
+    let low = 256 * (256 * (256 * wide(s[a4]) + wide(s[a5])) + wide(s[a6])) + wide(s[a7]);
+    4294967296 * high + low
+}
+
+// The order of the letters at a byte offset and a word, which are the same up to letter i.
+fn letters_from(image: &[u8], at: usize, word: &[u8], from: usize) -> Order
+    requires { ⌜ (at + length (now word) ≤ length (now image)) × (from ≤ length (now word)) × SameUpTo (take (length (now word)) (drop at (now image))) (now word) from ⌝ }
     ensures { λ r. ⌜ r ≡ wordOrder (take (length (now (word .entry))) (drop at (now (image .entry)))) (now (word .entry)) ⌝ }
 {
-    let mut i = 0;
+    let mut i = from;
     while i < word.len() {
         let x = image[at + i];
         let y = word[i];
@@ -385,6 +402,27 @@ fn letters_order(image: &[u8], at: usize, word: &[u8]) -> Order
         i += 1;
     }
     Order::Equal
+}
+
+// The order of the k letters at a byte offset and a word of k letters, eight at a time.
+fn letters_order(image: &[u8], at: usize, word: &[u8]) -> Order
+    requires { ⌜ at + length (now word) ≤ length (now image) ⌝ }
+    ensures { λ r. ⌜ r ≡ wordOrder (take (length (now (word .entry))) (drop at (now (image .entry)))) (now (word .entry)) ⌝ }
+{
+    let n = word.len();
+    let mut i = 0;
+    while 8 <= n - i {
+        let x = lead_at(image, at + i);
+        let y = lead_at(word, i);
+        if x < y {
+            return Order::Less;
+        }
+        if y < x {
+            return Order::Greater;
+        }
+        i += 8;
+    }
+    letters_from(image, at, word, i)
 }
 
 fn is_word_below(image: &[u8], base: usize, n: usize, k: usize, i: usize, word: &[u8]) -> bool
@@ -426,13 +464,27 @@ fn lower(image: &[u8], base: usize, n: usize, k: usize, word: &[u8]) -> usize
     lo
 }
 
-// How many records have a lower or equal word.
-fn upper(image: &[u8], base: usize, n: usize, k: usize, word: &[u8]) -> usize
-    requires { ⌜ Sorted (now image) base n k × (length (now word) ≡ k) ⌝ }
+fn doubled(step: usize) -> usize {
+    if step < 65536 { step * 2 } else { step }
+}
+
+// How many records have a lower or equal word, where so many have a lower one: by growing steps from there, then by halves.
+fn upper(image: &[u8], base: usize, n: usize, k: usize, word: &[u8], from: usize) -> usize
+    requires { ⌜ Sorted (now image) base n k × (length (now word) ≡ k) × (from ≡ count (wordBelow (padded (now word) k)) (each (portOf k) (recordSize k) n (drop base (now image)))) ⌝ }
     ensures { λ r. ⌜ r ≡ count (wordUpTo (padded (now (word .entry)) k)) (each (portOf k) (recordSize k) n (drop base (now (image .entry)))) ⌝ }
 {
-    let mut lo = 0;
+    let mut lo = from;
     let mut hi = n;
+    let mut step = 1;
+    while step < hi - lo {
+        let at = lo + step;
+        if is_word_up_to(image, base, n, k, at, word) {
+            lo = at + 1;
+            step = doubled(step);
+        } else {
+            hi = at;
+        }
+    }
     while lo < hi {
         let mid = lo + (hi - lo) / 2;
         if is_word_up_to(image, base, n, k, mid, word) {
@@ -455,6 +507,6 @@ pub fn bucket(image: &[u8], base: usize, n: usize, k: usize, word: &[u8]) -> Mem
     ensures { λ r. ⌜ r ≡ bucketOf (padded (now (word .entry)) k) (each (portOf k) (recordSize k) n (drop base (now (image .entry)))) ⌝ }
 {
     let lo = lower(image, base, n, k, word);
-    let hi = upper(image, base, n, k, word);
+    let hi = upper(image, base, n, k, word, lo);
     Members { lo, hi }
 }

@@ -1,8 +1,8 @@
 use borrow.Author.Needs.{needs}
 use Rattle.routes.proofs.Laws.{word-other, word-same, word-again}
-use Rattle.storage.proofs.OrderLaws.{SameUpTo}
+use Rattle.storage.specs.Inner.{SameUpTo}
 use Prim.Native.Nat.{_-_, _≤_}
-use Rattle.storage.proofs.OrderLaws.{SameUpTo}
+use Rattle.storage.specs.Inner.{SameUpTo}
 use Rattle.routes.proofs.is_same_word.Statement.{statement}
 use Rattle.routes.proofs.is_same_word.Tie as tie
 

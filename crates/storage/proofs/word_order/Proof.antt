@@ -1,6 +1,7 @@
 use Prim.Native.Nat.{_-_, _≤_}
 use borrow.Author.Needs.{needs}
-use Rattle.storage.proofs.OrderLaws.{SameUpTo, word-less, word-greater, word-next, word-equal}
+use Rattle.storage.specs.Inner.{SameUpTo}
+use Rattle.storage.proofs.OrderLaws.{word-less, word-greater, word-next, word-equal}
 use Rattle.storage.proofs.word_order.Statement.{statement}
 use Rattle.storage.proofs.word_order.Tie as tie
 

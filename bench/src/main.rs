@@ -1,0 +1,194 @@
+//! The library beside the original Rust and a tuned safe Rust of the same rule, in one process.
+#![forbid(unsafe_code)]
+mod agree;
+mod table;
+mod tuned;
+
+use oracle::{large, plain, spec::Spec};
+use original::{door, genome_inference::panel_routes::Scores};
+use panel_routes::{Assignment, Panel, SearchBudget, Segment};
+use std::{env, fs, path::Path, process::ExitCode, time::Instant};
+use table::{Row, Table};
+
+const SEED: u64 = 1;
+const FRONTIER: u64 = 1024;
+const OPTIMA: u64 = 8;
+
+/// The seconds that a run takes, and its answer.
+fn timed<T>(run: impl FnOnce() -> T) -> (f64, T) {
+    let start = Instant::now();
+    let answer = run();
+    (start.elapsed().as_secs_f64(), answer)
+}
+
+/// The least of several times each, taken by turns, and the last answers.
+fn side_by_side<A, B>(mut ours: impl FnMut() -> A, mut tuned: impl FnMut() -> B) -> (f64, A, f64, B) {
+    let begin = Instant::now();
+    let mut least = (f64::INFINITY, f64::INFINITY);
+    for turn in 1.. {
+        let ((one, a), (two, b)) = (timed(&mut ours), timed(&mut tuned));
+        least = (least.0.min(one), least.1.min(two));
+        if turn >= 3 && begin.elapsed().as_secs_f64() > 1.0 {
+            return (least.0, a, least.1, b);
+        }
+    }
+    unreachable!()
+}
+
+fn budget(work: u64) -> SearchBudget {
+    SearchBudget {
+        max_work: work,
+        max_evaluations: work,
+        max_frontier: FRONTIER,
+        max_optima: OPTIMA,
+        tie_width: 0.0,
+    }
+}
+
+fn tuned_budget(work: u64) -> tuned::Budget {
+    let SearchBudget { max_work, max_evaluations, max_frontier, max_optima, tie_width } = budget(work);
+    tuned::Budget { max_work, max_evaluations, max_frontier, max_optima, tie_width }
+}
+
+/// The rooms that a search lends, for panels of one path a family.
+struct Rooms {
+    frames: Vec<u64>,
+    slot: Vec<u64>,
+    kept: Vec<u64>,
+    scores: Vec<f64>,
+    out: Vec<u64>,
+}
+
+impl Rooms {
+    fn new() -> Self {
+        let needs = oracle::rules::needs_of(1, FRONTIER, OPTIMA);
+        Self {
+            frames: vec![0; needs.frames],
+            slot: vec![0; needs.slot],
+            kept: vec![0; needs.kept],
+            scores: vec![0.0; needs.scores],
+            out: vec![0; 1 << 16],
+        }
+    }
+}
+
+/// One walk with its scores, whole calls: the image is checked each time, by all but the original.
+fn walk(name: &str, spec: &Spec, work: u64, with_original: bool, folder: &Path) -> Row {
+    let image = spec.image();
+    let scores: Vec<f64> = (0..work).map(|i| ((i * 7919) % 1009) as f64).collect();
+    let panel = Panel::new(&image[..]).expect("a sound panel");
+    let mut rooms = Rooms::new();
+    let (ours, sheet, tuned, found) = side_by_side(
+        || panel.search_with_scores(budget(work), &scores).unwrap(),
+        || {
+            let panel = tuned::Panel::new(&image).unwrap();
+            let Rooms { frames, kept, scores: kept_scores, .. } = &mut rooms;
+            panel.search(tuned_budget(work), &scores, frames, kept, kept_scores).unwrap()
+        },
+    );
+    assert_eq!(sheet.counters.work, found.tally.work);
+    assert_eq!(sheet.counters.evaluations, found.tally.evaluations);
+    assert_eq!(sheet.counters.donors, found.tally.donors);
+    let mut row = Row::new(format!("{name}, {} units", found.tally.work), ours).tuned(tuned);
+    if with_original {
+        let b = budget(work);
+        let b = door::Budget {
+            work: b.max_work,
+            evaluations: b.max_evaluations,
+            frontier: b.max_frontier,
+            optima: b.max_optima,
+            tie: b.tie_width,
+        };
+        let original = |folder: Option<&Path>| {
+            let opened = door::Panel::open(&image, folder).unwrap();
+            let (time, walk) = timed(|| opened.search(b, Scores::List(&scores), false).unwrap().unwrap());
+            assert_eq!((walk.work, walk.donors), (found.tally.work, found.tally.donors));
+            time
+        };
+        row = row.original(original(None), original(Some(folder)));
+    }
+    row
+}
+
+/// One page of a listing, whole calls.
+fn listing(name: &str, spec: &Spec, work: u64) -> Row {
+    let image = spec.image();
+    let panel = Panel::new(&image[..]).unwrap();
+    let mut rooms = Rooms::new();
+    let (ours, made, tuned, found) = side_by_side(
+        || panel.assignments(budget(work)).unwrap().evaluations(),
+        || {
+            let panel = tuned::Panel::new(&image).unwrap();
+            let Rooms { frames, slot, out, .. } = &mut rooms;
+            panel.list(tuned_budget(work), 0, frames, slot, out).unwrap()
+        },
+    );
+    assert_eq!(made, found.evaluations);
+    Row::new(format!("listing, {name}, {work} units, {made} assignments"), ours).tuned(tuned)
+}
+
+fn panel_check(name: &str, spec: &Spec) -> Row {
+    let image = spec.image();
+    let (ours, _, tuned, _) =
+        side_by_side(|| Panel::new(&image[..]).is_ok(), || tuned::check(&image).is_ok());
+    Row::new(format!("panel check, {name}"), ours).tuned(tuned)
+}
+
+/// The first lane whole, in so many pieces; the panel is checked too.
+fn assignment_check(name: &str, spec: &Spec, pieces: u64) -> Row {
+    let image = spec.image();
+    let panel = Panel::new(&image[..]).unwrap();
+    let length = spec.lanes[0].0;
+    let at = |i: u64| i * length / pieces;
+    let piece = |i| Segment { source: 0, start: at(i), end: at(i + 1), reverse: false };
+    let assignment = Assignment::new(0, [(0..pieces).map(piece)]).unwrap();
+    let mut out = vec![0; assignment.words().len()];
+    let (ours, normal, tuned, used) = side_by_side(
+        || panel.check_assignment(&assignment).unwrap(),
+        || {
+            let panel = plain::Panel::parse(&image).unwrap();
+            panel.check_assignment(assignment.words(), &mut out).unwrap()
+        },
+    );
+    assert_eq!(normal.words(), &out[..used]);
+    Row::new(format!("assignment check, {name}, {pieces} segments"), ours).tuned(tuned)
+}
+
+fn run(folder: &Path) {
+    let mut table = Table::begin();
+    let pools: Vec<(String, Spec)> =
+        [16, 200, 1000].map(|p| (format!("pool of {p} words"), large::pooled(SEED, p))).into();
+    for (name, spec) in &pools {
+        table.put(walk(&format!("walk, {name}"), spec, 300_000, true, folder));
+        table.put(walk(&format!("walk, {name}"), spec, 10_000_000, false, folder));
+    }
+    for (name, spec) in &pools {
+        table.put(listing(name, spec, 1_000_000));
+    }
+    let (name, spec) = &pools[1];
+    table.put(panel_check("3,200 ports", spec));
+    table.put(assignment_check(name, spec, 1));
+    table.put(assignment_check(name, spec, 10_000));
+    let wide = large::wide(SEED, 1_000_000);
+    table.put(panel_check("1,000,000 ports", &wide));
+    table.put(walk("walk, 1,000,000 ports", &wide, 300_000, true, folder));
+    table.put(assignment_check("1,000,000 ports", &wide, 1));
+}
+
+fn main() -> ExitCode {
+    let words: Vec<String> = env::args().skip(1).collect();
+    match words.iter().map(String::as_str).collect::<Vec<_>>()[..] {
+        ["agree", count] => agree::with_judge(count.parse().expect("a count")),
+        [] => {
+            let folder = env::temp_dir().join(format!("panel-routes-bench-{}", std::process::id()));
+            fs::create_dir_all(&folder).unwrap();
+            run(&folder);
+            fs::remove_dir_all(&folder).unwrap();
+            ExitCode::SUCCESS
+        }
+        _ => {
+            eprintln!("usage: bench, or bench agree COUNT");
+            ExitCode::from(2)
+        }
+    }
+}

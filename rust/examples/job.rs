@@ -1,0 +1,244 @@
+//! Jobs of the walk program as readable text, and back.
+//!
+//! `job pack [TEXT]` writes a job, `job unpack [JOB]` its text; without a file they read
+//! standard input. A line is one of these, `#` begins a comment:
+//!
+//! ```text
+//! k 2                        letters of a word
+//! lane morex 10 0            name, length, identity
+//! family morex               the lanes of its paths
+//! port AC morex 3 +          word, lane, anchor, orientation
+//! max_work 100000            or max_evaluations, max_frontier, max_optima, tie_width
+//! score 5                    of the next evaluation
+//! ```
+//!
+//! Without a budget line the job has no budget words; with one, what is not said is the
+//! default. A number of a score or width may be given by its bits, as 0x7ff0000000000000.
+use panel_routes::{Assignment, Job, PanelBuilder, SearchBudget};
+use std::{
+    env,
+    error::Error,
+    fmt::Write as _,
+    fs,
+    io::{self, Read, Write},
+    process::ExitCode,
+};
+
+type Outcome<T> = Result<T, Box<dyn Error>>;
+
+const USAGE: &str = "usage: job pack [TEXT] or job unpack [JOB]";
+
+/// What the lines of a text have said so far.
+struct Text {
+    names: Vec<String>,
+    builder: PanelBuilder,
+    budget: Option<SearchBudget>,
+    scores: Vec<f64>,
+}
+
+impl Text {
+    fn lane(&self, name: &str) -> Outcome<u64> {
+        let known = self.names.iter().position(|n| n == name);
+        Ok(known.ok_or_else(|| format!("no lane is named {name} above"))? as u64)
+    }
+
+    fn line(&mut self, words: &[&str]) -> Outcome<()> {
+        match *words {
+            [] => {}
+            ["k", k] => {
+                if !self.names.is_empty() {
+                    return Err("k comes first".into());
+                }
+                self.builder = PanelBuilder::new(k.parse()?);
+            }
+            ["lane", name, length, identity] => {
+                if self.lane(name).is_ok() {
+                    return Err(format!("a second lane {name}").into());
+                }
+                self.names.push(name.into());
+                self.builder.lane(length.parse()?, identity.parse()?);
+            }
+            ["family", ref names @ ..] => {
+                let paths: Vec<u64> = names.iter().map(|n| self.lane(n)).collect::<Outcome<_>>()?;
+                self.builder.family(paths);
+            }
+            ["port", word, lane, anchor, sign @ ("+" | "-")] => {
+                let lane = self.lane(lane)?;
+                self.builder.port(word, lane, anchor.parse()?, sign == "-");
+            }
+            ["score", score] => self.scores.push(double(score)?),
+            [name, value] => self.budget_line(name, value)?,
+            _ => return Err("no such line".into()),
+        }
+        Ok(())
+    }
+
+    fn budget_line(&mut self, name: &str, value: &str) -> Outcome<()> {
+        let mut budget = self.budget.unwrap_or_default();
+        match name {
+            "max_work" => budget.max_work = value.parse()?,
+            "max_evaluations" => budget.max_evaluations = value.parse()?,
+            "max_frontier" => budget.max_frontier = value.parse()?,
+            "max_optima" => budget.max_optima = value.parse()?,
+            "tie_width" => budget.tie_width = double(value)?,
+            _ => return Err("no such line".into()),
+        }
+        self.budget = Some(budget);
+        Ok(())
+    }
+}
+
+fn double(text: &str) -> Outcome<f64> {
+    Ok(match text.strip_prefix("0x") {
+        Some(bits) => f64::from_bits(u64::from_str_radix(bits, 16)?),
+        None => text.parse()?,
+    })
+}
+
+/// So that `double` reads the same bits again.
+fn shown(x: f64) -> String {
+    if x.is_finite() {
+        format!("{x:?}")
+    } else {
+        format!("{:#018x}", x.to_bits())
+    }
+}
+
+fn pack(text: &str) -> Outcome<Vec<u8>> {
+    let mut said =
+        Text { names: Vec::new(), builder: PanelBuilder::new(0), budget: None, scores: Vec::new() };
+    for (i, line) in text.lines().enumerate() {
+        let words: Vec<&str> = line.split('#').next().unwrap_or("").split_whitespace().collect();
+        said.line(&words).map_err(|e| format!("line {}: {e}", i + 1))?;
+    }
+    let job = Job { panel: said.builder.build()?, budget: said.budget, scores: said.scores };
+    Ok(job.to_bytes()?)
+}
+
+/// The segments of each route, routes apart by a stroke.
+fn in_a_line(assignment: &Assignment) -> String {
+    let routes = assignment.routes().map(|r| r.map(|s| format!("lane{s}")).collect::<Vec<_>>().join(", "));
+    format!("family {}: {}", assignment.family(), routes.collect::<Vec<_>>().join(" | "))
+}
+
+/// Scores beside the assignments that they belong to; those without one as comments.
+fn write_scores(job: &Job, text: &mut String) -> Outcome<()> {
+    let mut scores = job.scores.iter().map(|s| shown(*s));
+    match job.panel.assignments(job.budget.unwrap_or_default()) {
+        Err(refusal) => writeln!(text, "# {refusal}")?,
+        Ok(listing) => {
+            for (i, assignment) in listing.enumerate() {
+                let score = scores.next().map_or("# no score".into(), |s| format!("score {s}"));
+                writeln!(text, "{score:<12} # {}, {}", i + 1, in_a_line(&assignment))?;
+            }
+        }
+    }
+    for score in scores {
+        writeln!(text, "score {score}")?;
+    }
+    Ok(())
+}
+
+fn unpack(bytes: &[u8]) -> Outcome<String> {
+    let job = Job::from_bytes(bytes)?;
+    let mut text = format!("k {}\n", job.panel.k());
+    for (i, lane) in job.panel.lanes().enumerate() {
+        writeln!(text, "lane lane{i} {} {}", lane.length, lane.identity)?;
+    }
+    for paths in job.panel.families() {
+        let names: Vec<String> = paths.iter().map(|p| format!("lane{p}")).collect();
+        writeln!(text, "family {}", names.join(" "))?;
+    }
+    for p in job.panel.ports() {
+        let sign = if p.reverse { '-' } else { '+' };
+        writeln!(text, "port {} lane{} {} {sign}", p.word, p.source, p.anchor)?;
+    }
+    if let Some(b) = job.budget {
+        writeln!(text, "max_work {}\nmax_evaluations {}", b.max_work, b.max_evaluations)?;
+        writeln!(text, "max_frontier {}\nmax_optima {}", b.max_frontier, b.max_optima)?;
+        writeln!(text, "tie_width {}", shown(b.tie_width))?;
+    }
+    write_scores(&job, &mut text)?;
+    Ok(text)
+}
+
+fn input(file: Option<&String>) -> io::Result<Vec<u8>> {
+    let mut bytes = Vec::new();
+    match file {
+        Some(name) => bytes = fs::read(name)?,
+        None => drop(io::stdin().read_to_end(&mut bytes)?),
+    }
+    Ok(bytes)
+}
+
+fn run(words: &[String]) -> Outcome<()> {
+    let (word, file) = match words {
+        [word] => (word, None),
+        [word, file] => (word, Some(file)),
+        _ => return Err(USAGE.into()),
+    };
+    let answer = match word.as_str() {
+        "pack" => pack(std::str::from_utf8(&input(file)?)?)?,
+        "unpack" => unpack(&input(file)?)?.into_bytes(),
+        _ => return Err(USAGE.into()),
+    };
+    Ok(io::stdout().write_all(&answer)?)
+}
+
+fn main() -> ExitCode {
+    let words: Vec<String> = env::args().skip(1).collect();
+    match run(&words) {
+        Ok(()) => ExitCode::SUCCESS,
+        Err(e) => {
+            eprintln!("{e}");
+            ExitCode::FAILURE
+        }
+    }
+}
+
+#[cfg(test)]
+mod tests {
+    use super::*;
+    use std::path::Path;
+
+    fn file(name: &str) -> Vec<u8> {
+        fs::read(Path::new(env!("CARGO_MANIFEST_DIR")).join("../examples").join(name)).unwrap()
+    }
+
+    #[test]
+    fn the_examples_are_their_texts_and_give_their_sheets() {
+        for name in ["panel-e", "mosaic"] {
+            let text = String::from_utf8(file(&format!("{name}.txt"))).unwrap();
+            let bytes = file(&format!("{name}.job"));
+            assert_eq!(pack(&text).unwrap(), bytes);
+            assert_eq!(pack(&unpack(&bytes).unwrap()).unwrap(), bytes);
+            let job = Job::from_bytes(&bytes).unwrap();
+            let sheet = job.panel.search_with_scores(job.budget.unwrap_or_default(), &job.scores).unwrap();
+            assert_eq!(sheet.to_string().into_bytes(), file(&format!("{name}.sheet")));
+        }
+    }
+
+    #[test]
+    fn numbers_keep_their_bits() {
+        let panel = PanelBuilder::new(1).lane(1, 7).build().unwrap();
+        let patterns = [0, 1 << 63, 1, 0x7ff0_0000_0000_0000, 0xfff8_0000_0000_0001, 0x3fb9_9999_9999_999a];
+        let scores: Vec<f64> = patterns.map(f64::from_bits).to_vec();
+        let budget = SearchBudget { max_work: 0, tie_width: f64::NAN, ..SearchBudget::default() };
+        let bytes = Job { panel, budget: Some(budget), scores }.to_bytes().unwrap();
+        assert_eq!(pack(&unpack(&bytes).unwrap()).unwrap(), bytes);
+    }
+
+    #[test]
+    fn what_is_no_text() {
+        let said = |text: &str| pack(text).unwrap_err().to_string();
+        assert_eq!(said("k 1\nlane a 1 0\nfamily b"), "line 3: no lane is named b above");
+        assert_eq!(said("lane a 1 0\nk 1"), "line 2: k comes first");
+        assert_eq!(said("k 1\nlane a 1 0\nlane a 1 0"), "line 3: a second lane a");
+        assert_eq!(said("k 1 # letters\nlane a 1"), "line 2: no such line");
+        assert_eq!(said("k 1\nlane a 1 0\nport A a 0 *"), "line 3: no such line");
+        assert_eq!(said("k 1\nlane a 1 0\nport N a 0 +"), "port 0: its word is not k letters from ACGT");
+        assert!(said("k 1\nlane a x 0").starts_with("line 2: "));
+        let many = "score 0\n".repeat(1_025);
+        assert!(said(&format!("k 1\nlane a 1 0\n{many}")).starts_with("refused 16 0"));
+    }
+}

@@ -1,0 +1,6 @@
+//! The crate from outside, over the archive that it is linked to.
+mod builder;
+mod examples;
+mod panel_e;
+mod recorded;
+mod refusals;
