@@ -13,7 +13,7 @@ ghost use Rattle.assignment.specs.Inner.{familyRefusal, Replied};
 pub const WORDS: usize = 65536;
 
 // The family of this number.
-fn family_of(image: &[u8], h: image::Header, number: usize) -> image::Family
+pub fn family_of(image: &[u8], h: image::Header, number: usize) -> image::Family
     requires { ⌜ Grouped (now image) h × (number < h .families) ⌝ }
     ensures { λ r. ⌜ Groups (now (image .entry)) h r × (r .number ≡ number) ⌝ }
 {

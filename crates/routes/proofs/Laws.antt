@@ -237,7 +237,7 @@ module _ (s ws : List ℕ) (target place left : ℕ) where
 
 -- ---- route by route
 
-paths-are : (s : List ℕ) (h : Header) (n : ℕ) → Framed s h → pathsAt (panelOf s) n ≡ pathsOf h s n
+pub paths-are : (s : List ℕ) (h : Header) (n : ℕ) → Framed s h → pathsAt (panelOf s) n ≡ pathsOf h s n
 unfolding pathsOf
 paths-are s h n f = rw (panel-families s h f)
 

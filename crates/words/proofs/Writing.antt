@@ -21,7 +21,7 @@ byte-bit false = refl
 
 -- ---- words put one behind the other
 
-sets-append : (us vs l : List ℕ) (i : ℕ) → sets l i (us ++ vs) ≡ sets (sets l i us) (i + length us) vs
+pub sets-append : (us vs l : List ℕ) (i : ℕ) → sets l i (us ++ vs) ≡ sets (sets l i us) (i + length us) vs
 sets-append [] vs l i = let z : i + 0 ≡ i = omega arith in rw z
 sets-append (u ∷ us) vs l i = let z : i + suc (length us) ≡ suc i + length us = omega arith in sets-append us vs (set l i u) (suc i) ∙ rw z
 
@@ -31,7 +31,7 @@ set-under (v ∷ vs) l i j a h =
     let n : j ≡ i → ⊥ = λ e. omega arith in
     set-under vs (set l j v) i (suc j) a (omega arith) ∙ ap (λ (x : List ℕ). sets x (suc j) vs) (set-comm l j i v a n)
 
-segment-words-length : (r : Route) → length (segmentWords r) ≡ 4 * length r
+pub segment-words-length : (r : Route) → length (segmentWords r) ≡ 4 * length r
 segment-words-length [] = refl
 segment-words-length (s ∷ r) = let e = segment-words-length r in omega arith
 

@@ -1,0 +1,4 @@
+pub mod Spans
+pub mod Rooms
+pub mod Laws
+pub mod Short
