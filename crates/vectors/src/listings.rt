@@ -58,36 +58,27 @@ fn is_reply(r: search::ListReply, body: &[u8], at: usize) -> bool {
     record::is_words(&words, body, at)
 }
 
-// The rooms afterwards: the frames of the record, a cleared slot, the words that the record has of out.
-fn is_left(
-    n: rooms::Sizes,
-    body: &[u8],
-    at: usize,
-    frames: [u64; rooms::WORDS],
-    slot: [u64; rooms::WORDS],
-    out: [u64; rooms::WORDS],
-) -> bool {
-    let frame_words = rooms::frame_words(record::next(body, at, 6));
-    let frames_at = record::onward(at, 7);
-    let out_at = record::onward(frames_at, frame_words);
-    if rooms::is_equal(frames, rooms::left(n.frames, body, frames_at, frame_words)) {
-        if rooms::is_equal(slot, rooms::left(n.slot, body, at, 0)) {
-            let words = record::next(body, at, 4);
-            return rooms::is_equal(out, rooms::left(0, body, out_at, words));
-        }
+// The frames follow their count, which a refusal leaves out.
+fn frames_at(at: usize, refusal: u64) -> usize {
+    if refusal == 0 {
+        record::onward(at, 7)
+    } else {
+        record::onward(at, 6)
     }
-    false
 }
 
-pub fn is_list(image: &[u8], body: &[u8], arguments: usize, at: usize) -> bool {
+pub fn is_list(image: &[u8], body: &[u8], arguments: usize, at: usize, end: usize) -> bool {
     let mut frames = rooms::marked();
     let mut slot = rooms::marked();
     let mut out = rooms::marked();
     let r = list_in(image, body, arguments, &mut frames, &mut slot, &mut out);
     let n = rooms::needed(image, record::budget_of(body, arguments), r.refusal);
-    if is_reply(r, body, at) {
-        is_left(n, body, at, frames, slot, out)
-    } else {
-        false
-    }
+    let from = frames_at(at, r.refusal);
+    let frame_words = rooms::frame_words(record::next(body, at, 6));
+    let out_at = record::onward(from, frame_words);
+    is_reply(r, body, at)
+        && rooms::is_equal(frames, rooms::left(n.frames, body, from, frame_words))
+        && rooms::is_equal(slot, rooms::left(n.slot, body, from, 0))
+        && rooms::is_equal(out, rooms::left(0, body, out_at, r.words))
+        && record::onward(out_at, r.words) == end
 }

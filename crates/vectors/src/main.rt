@@ -38,27 +38,30 @@ impl Score {
 
 // Whether a record's answer is ours.
 fn is_same(h: Head, body: &[u8]) -> bool {
-    let arguments = record::padded(h.image);
-    let at = record::expected_at(h);
-    if 4096 < h.image {
-        return false;
-    }
-    let end = h.image as usize;
+    let end = record::padded(h.image);
     if body.len() < end {
         return false;
     }
-    let from: usize = 0;
-    answered(h.kind, &body[from..end], body, arguments, at)
+    let n = h.image as usize;
+    if end < n {
+        return false;
+    }
+    let first: usize = 0;
+    answered(h, &body[first..n], body)
 }
 
-fn answered(kind: u64, image: &[u8], body: &[u8], arguments: usize, at: usize) -> bool {
+fn answered(h: Head, image: &[u8], body: &[u8]) -> bool {
+    let arguments = record::padded(h.image);
+    let at = record::expected_at(h);
+    let end = record::end_at(h);
+    let kind = h.kind;
     match kind {
         1 => lookups::is_panel(image, body, at),
         2 => lookups::is_port(image, body, arguments, at),
         3 => lookups::is_bucket_of(image, body, arguments, at),
         4 => assignments::is_check(image, body, arguments, at),
-        5 => listings::is_list(image, body, arguments, at),
-        6 => searches::is_search(image, body, arguments, at),
+        5 => listings::is_list(image, body, arguments, at, end),
+        6 => searches::is_search(image, body, arguments, at, end),
         _ => false,
     }
 }

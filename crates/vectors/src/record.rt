@@ -71,6 +71,11 @@ pub fn onward(at: usize, n: u64) -> usize {
     at + 8 * n as usize
 }
 
+// Where the record ends.
+pub fn end_at(h: Head) -> usize {
+    onward(expected_at(h), h.expected)
+}
+
 // Whether the words are those behind a byte offset.
 pub fn is_words(words: &[u64], body: &[u8], at: usize) -> bool {
     let n = words.len();

@@ -75,15 +75,15 @@ pub fn left(needed: usize, body: &[u8], at: usize, n: u64) -> [u64; WORDS] {
     room
 }
 
-// The words of n frames; no record has so many that they are none.
+// The words of n frames; of more than a room has, more than a record has.
 pub fn frame_words(n: u64) -> u64 {
     if (WORDS as u64) < n {
-        return 0;
+        return n;
     }
     10 * n
 }
 
-pub fn one_more(n: u64) -> u64 {
+pub fn and_one(n: u64) -> u64 {
     if n < u64::MAX { n + 1 } else { n }
 }
 
@@ -131,7 +131,7 @@ pub struct Sizes {
     pub scores: usize,
 }
 
-pub fn nothing() -> Sizes {
+fn nothing() -> Sizes {
     Sizes {
         frames: 0,
         slot: 0,

@@ -98,7 +98,7 @@ fn is_reply(r: search::SearchReply, body: &[u8], at: usize) -> bool {
 // The frames of an answer, a pending child counted.
 fn frames_of(body: &[u8], at: usize) -> u64 {
     if record::next(body, at, 15) == 1 {
-        rooms::one_more(record::next(body, at, 14))
+        rooms::and_one(record::next(body, at, 14))
     } else {
         record::next(body, at, 14)
     }
@@ -107,7 +107,7 @@ fn frames_of(body: &[u8], at: usize) -> u64 {
 // The assignments kept: an incumbent where there was an evaluation, and the tied optima.
 fn kept_of(body: &[u8], at: usize) -> u64 {
     if 0 < record::next(body, at, 4) {
-        rooms::one_more(record::next(body, at, 12))
+        rooms::and_one(record::next(body, at, 12))
     } else {
         0
     }
@@ -125,8 +125,8 @@ fn lay_scores(room: &mut [u64], body: &[u8], at: usize, n: u64) {
     }
 }
 
-// The words of the n assignments kept, each in its own slot of the room.
-fn lay_slots(room: &mut [u64], body: &[u8], at: usize, n: u64, slot: usize) {
+// The words of the n assignments kept, each in its own slot of the room; where the last of them ends.
+fn lay_slots(room: &mut [u64], body: &[u8], at: usize, n: u64, slot: usize) -> usize {
     let mut here = at;
     let mut place: usize = 0;
     let mut i: u64 = 0;
@@ -138,28 +138,27 @@ fn lay_slots(room: &mut [u64], body: &[u8], at: usize, n: u64, slot: usize) {
         place = rooms::further(place, slot);
         i += 1;
     }
+    here
 }
 
+// What the record says was kept, to its end.
 fn is_kept(
     n: rooms::Sizes,
     body: &[u8],
     at: usize,
     count: u64,
+    end: usize,
     kept: [u64; rooms::WORDS],
     scores: [f64; rooms::WORDS],
 ) -> bool {
     let mut words = rooms::left(n.kept, body, at, 0);
     let mut bits = rooms::left(n.scores, body, at, 0);
-    lay_slots(&mut words, body, at, count, n.slot);
+    let last = lay_slots(&mut words, body, at, count, n.slot);
     lay_scores(&mut bits, body, at, count);
-    if rooms::is_equal(kept, words) {
-        rooms::is_bits(scores, bits)
-    } else {
-        false
-    }
+    rooms::is_equal(kept, words) && rooms::is_bits(scores, bits) && last == end
 }
 
-pub fn is_search(image: &[u8], body: &[u8], arguments: usize, at: usize) -> bool {
+pub fn is_search(image: &[u8], body: &[u8], arguments: usize, at: usize, end: usize) -> bool {
     let scores = scores_of(body, arguments);
     let mut frames = rooms::marked();
     let mut kept = rooms::marked();
@@ -174,13 +173,10 @@ pub fn is_search(image: &[u8], body: &[u8], arguments: usize, at: usize) -> bool
         &mut kept_scores,
     );
     let n = rooms::needed(image, record::budget_of(body, arguments), r.refusal);
+    let from = record::onward(at, 16);
     let frame_words = rooms::frame_words(frames_of(body, at));
-    let frames_at = record::onward(at, 16);
-    let kept_at = record::onward(frames_at, frame_words);
-    if is_reply(r, body, at) {
-        if rooms::is_equal(frames, rooms::left(n.frames, body, frames_at, frame_words)) {
-            return is_kept(n, body, kept_at, kept_of(body, at), kept, kept_scores);
-        }
-    }
-    false
+    let kept_at = record::onward(from, frame_words);
+    is_reply(r, body, at)
+        && rooms::is_equal(frames, rooms::left(n.frames, body, from, frame_words))
+        && is_kept(n, body, kept_at, kept_of(body, at), end, kept, kept_scores)
 }
