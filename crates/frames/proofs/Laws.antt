@@ -9,7 +9,7 @@ use mathlib.Core.Logic.{_⊎_, inl, inr}
 use mathlib.Core.List.{List, [], _∷_, _++_, append-assoc, append-nil}
 use lib.Dec.{eqb, ltb, leb}
 use lib.ListN.{length, getD, take, drop, length-append, List·getD-append}
-use lib.Seq.{sets, take-add, drop-cons, length-sets, getD-at}
+use lib.Seq.{sets-eq, sets, take-add, drop-cons, length-sets, getD-at}
 use borrow.Author.Tests.{eq-eqb, ne-eqb, lt-ltb, le-ltb, le-leb, lt-leb, ltb-true, ltb-false}
 use Rattle.ground.specs.Lists.{all}
 use Rattle.evaluate.specs.declared.Segment.{Segment}
@@ -79,6 +79,17 @@ drop-put xs i n f h = drop-sets (storedWords f) xs (i * frameWidth) n (omega ari
 pub take-put : (xs : List ℕ) (i n : ℕ) (f : Stored) → n ≤ i * frameWidth → take n (put xs i f) ≡ take n xs
 unfolding put
 take-put xs i n f h = take-sets (storedWords f) xs (i * frameWidth) n h
+
+-- a frame put over another
+pub put-again : (xs : List ℕ) (i : ℕ) (f g : Stored) → (i + 1) * frameWidth ≤ length xs → put (put xs i f) i g ≡ put xs i g
+unfolding put
+put-again xs i f g h =
+    put-as (put xs i f) i g (let e = length-put xs i f in omega arith)
+    ∙ ap₂ (λ (a c : List ℕ). a ++ storedWords g ++ c) (take-put xs i (i * frameWidth) f (omega arith)) (drop-put xs i (i * frameWidth + 10) f (omega arith))
+    ∙ sym (put-as xs i g h)
+  where
+    put-as : (ys : List ℕ) (j : ℕ) (e : Stored) → (j + 1) * frameWidth ≤ length ys → put ys j e ≡ take (j * frameWidth) ys ++ storedWords e ++ drop (j * frameWidth + 10) ys
+    put-as ys j e k = sets-eq (storedWords e) ys (j * frameWidth) (omega arith)
 
 -- ---- pieces
 

@@ -14,7 +14,8 @@ use borrow.Author.Tests.{le-leb, lt-leb, lt-ltb, le-ltb}
 use Rattle.ground.specs.Lists.{pick, sum}
 use Rattle.image.specs.declared.Header.{Header}
 use Rattle.image.specs.declared.Family.{Family}
-use Rattle.image.specs.Image.{pathCounts, pathsOf}
+use Rattle.image.specs.declared.Lane.{Lane}
+use Rattle.image.specs.Image.{pathCounts, pathsOf, entries, counts, startOf, noEntry}
 use Rattle.image.specs.Inner.{Started, Grouped, Groups}
 use Rattle.image.specs.Panel.{Panel, panelOf, pathsAt}
 use Rattle.panel.specs.Inner.{Accepted}
@@ -31,18 +32,18 @@ use Rattle.search.specs.Run.{Walk, Walked, Phase, going, ended, Ending, exhaust
 use Rattle.search.specs.Rooms.{frameWidth, placeWords, frameWords, stackWords, pendingWords, framesLeft}
 use Rattle.frames.specs.declared.Stored.{Stored}
 use Rattle.frames.specs.Inner.{Path, noPath, noSegment, longer, pathTo, pathAt, storedAt, placeWith, frameWith, put, frameOf, stackOf, Linked, Alike}
-use Rattle.frames.proofs.Laws.{length-put, drop-put, stored-same, stored-below, path-at, stack-none, stack-top, stack-above, stack-retop, stack-root, stack-push, length-stack, frame-below, frame-push, frame-retop, frame-root, alike-below, alike-path, linked-less, linked-root, linked-push, linked-retop, stack-suc, take-words}
+use Rattle.frames.proofs.Laws.{put-again, length-put, drop-put, stored-same, stored-below, path-at, stack-none, stack-top, stack-above, stack-retop, stack-root, stack-push, length-stack, frame-below, frame-push, frame-retop, frame-root, alike-below, alike-path, linked-less, linked-root, linked-push, linked-retop, stack-suc, take-words}
 use Rattle.landings.specs.declared.Landing.{Landing}
 use Rattle.advance.specs.declared.Action.{Action}
 use Rattle.advance.specs.declared.Action.the-variants.{Leave, Pass, Down, Give}
 use Rattle.advance.specs.declared.Turn.{Turn}
-use Rattle.advance.specs.Inner.{childOf, entered, Sound, Child, Flagged, taskOf, actOf, Turned, Ready, Moved}
-use Rattle.advance.proofs.Laws.{enter-child, enter-alike, enter-sound, enter-shut, paths-are, path-named, path-some}
+use Rattle.advance.specs.Inner.{movedTo, On, childOf, entered, Sound, Child, Flagged, taskOf, actOf, Turned, Ready, Moved}
+use Rattle.advance.proofs.Laws.{hub-member, meets-blocked, enter-child, enter-alike, enter-sound, enter-shut, paths-are, path-named, path-some}
 use Rattle.walks.specs.declared.Standing.{Standing}
 use Rattle.walks.specs.declared.Halt.{Halt}
 use Rattle.walks.specs.declared.Halt.the-variants.{Stopped, Due}
 use Rattle.walks.specs.declared.Pause.{Pause}
-use Rattle.walks.specs.Inner.{spentOf, handedOf, doneOf, walkOf, gone, toGo, handing, before, endingOf, assigned, haltedAs, rootOf, Held, Walking, Kept, usedBy, Paused, zeroed}
+use Rattle.walks.specs.Inner.{spentOf, handedOf, doneOf, walkOf, gone, toGo, handing, before, endingOf, assigned, haltedAs, rootOf, Held, Walking, Kept, usedBy, Paused, zeroed, tookOf, Skipped, Passed}
 use Rattle.walks.proofs.Steps.{run-after, run-ended, to-go-some, to-go-work, to-go-evaluation, to-go-act}
 
 -- ---- the room
@@ -353,6 +354,102 @@ module _ (s : List ℕ) (h : Header) (b : SearchBudget) (family : Family) (start
           child-flag =
               let q : d + 1 - 1 ≡ d = omega arith in
               rw (q, top-down, ee) (enter-shut (panelOf s) (panelOf s) (pathTo (pathAt ys (d - 1)) (storedAt ys (d - 1)) (entered (panelOf s) c)) s h (family .count) c (turn .clear) (m .turned .child c ea))
+
+-- ---- members passed over at once
+
+module _ (s : List ℕ) (h : Header) (b : SearchBudget) (family : Family) (start : ℕ) (xs₀ : List ℕ) (t₀ : Tally) (d₀ : ℕ) (acc : Accepted s h) where
+  -- one member of a hub whose piece is not clear
+  one-over : (xs : List ℕ) (t : Tally) (d : ℕ) → Going s h b family start xs₀ t₀ d₀ xs t d false → (d ≡ 0 → ⊥) → t .work < b .«max_work» → t .evaluations < b .«max_evaluations» → storedAt xs (d - 1) .terminal ≡ false
+      → storedAt xs (d - 1) .«hub_next» < storedAt xs (d - 1) .«hub_end»
+      → Going s h b family start xs₀ t₀ d₀ (put xs (d - 1) (movedTo (storedAt xs (d - 1)) (storedAt xs (d - 1) .next) (storedAt xs (d - 1) .«hub_next» + 1) (storedAt xs (d - 1) .«hub_end»))) (spentOf t 1) d false
+  unfolding frameOf
+  one-over xs t d g n lw le term lt =
+      by-pass s h b family start xs₀ t₀ d₀ xs t d false _ (spentOf t 1) (record { action = Pass; frame = after; taken = 1; clear = false }) g n lw le
+      (record { turned = hub-member s h family lane xs (d - 1) top false after on term (λ z. absurd (omega arith)) (g .held .flagged (omega arith)) Pass lt (meets-blocked s h family top false refl) refl; room = refl }) refl acc refl
+    where
+      top : Stored
+      top = storedAt xs (d - 1)
+
+      after : Stored
+      after = movedTo (storedAt xs (d - 1)) (storedAt xs (d - 1) .next) (storedAt xs (d - 1) .«hub_next» + 1) (storedAt xs (d - 1) .«hub_end»)
+
+      sound : Sound s h (family .count) (storedAt xs (d - 1))
+      sound = g .held .sound (d - 1) (omega arith)
+
+      lane : Lane
+      lane =
+          record {
+            number = storedAt xs (d - 1) .source;
+            len = getD (entries h s) (storedAt xs (d - 1) .source) noEntry .len;
+            identity = getD (entries h s) (storedAt xs (d - 1) .source) noEntry .identity;
+            start = startOf h s (storedAt xs (d - 1) .source);
+            count = getD (counts h s) (storedAt xs (d - 1) .source) 0;
+          }
+
+      on : On s h family lane xs (d - 1) top
+      on =
+          record {
+            accepted = acc;
+            groups = g .groups;
+            stands = record { counted = acc .counted; lane = sound .lane; len = refl; identity = refl; count = refl; start = refl };
+            here = refl;
+            sound = sound;
+            room = (let r = g .held .room in let e = g .held .deep in omega arith);
+          }
+
+  -- and so many
+  module _ (xs : List ℕ) (t : Tally) (d : ℕ) (g : Going s h b family start xs₀ t₀ d₀ xs t d false) (n : d ≡ 0 → ⊥) (le : t .evaluations < b .«max_evaluations») (term : storedAt xs (d - 1) .terminal ≡ false) where
+    abbrev with-fewer : ℕ → Stored
+    with-fewer m = movedTo (storedAt xs (d - 1)) (storedAt xs (d - 1) .next) (storedAt xs (d - 1) .«hub_next» + m) (storedAt xs (d - 1) .«hub_end»)
+
+    top-fits : (d - 1 + 1) * frameWidth ≤ length xs
+    top-fits = let r = g .held .room in let e = g .held .deep in omega arith
+
+    many-over : (m : ℕ) → storedAt xs (d - 1) .«hub_next» + suc m ≤ storedAt xs (d - 1) .«hub_end» → t .work + suc m ≤ b .«max_work»
+        → Going s h b family start xs₀ t₀ d₀ (put xs (d - 1) (with-fewer (suc m))) (tookOf t (suc m)) d false
+    many-over zero few w = one-over xs t d g n (omega arith) le term (omega arith)
+    many-over (suc m) few w =
+        let before = many-over m (omega arith) (omega arith) in
+        let same : storedAt (put xs (d - 1) (with-fewer (suc m))) (d - 1) ≡ with-fewer (suc m) = stored-same xs (d - 1) (with-fewer (suc m)) top-fits in
+        let one = one-over (put xs (d - 1) (with-fewer (suc m))) (tookOf t (suc m)) d before n (omega arith) le (ap (λ (f : Stored). f .terminal) same) (rw same (omega arith)) in
+        let next : storedAt xs (d - 1) .«hub_next» + suc m + 1 ≡ storedAt xs (d - 1) .«hub_next» + suc (suc m) = omega arith in
+        let works : t .work + suc m + 1 ≡ t .work + suc (suc m) = omega arith in
+        let takes : t .donors + suc m + 1 ≡ t .donors + suc (suc m) = omega arith in
+        rw (same, put-again xs (d - 1) (with-fewer (suc m)) (movedTo (with-fewer (suc m)) (with-fewer (suc m) .next) (with-fewer (suc m) .«hub_next» + 1) (with-fewer (suc m) .«hub_end»)) top-fits, next, works, takes) at one
+
+  pub over-going : (xs ys : List ℕ) (t u : Tally) (d : ℕ) (flag : Bool) → Going s h b family start xs₀ t₀ d₀ xs t d flag → (d ≡ 0 → ⊥) → t .evaluations < b .«max_evaluations» → Passed b flag xs ys (d - 1) t u
+      → Going s h b family start xs₀ t₀ d₀ ys u d flag
+  over-going xs ys t u d flag g n le q = go (q .how)
+    where
+      go : ((ys ≡ xs) × (u ≡ t)) ⊎ ((m : ℕ) × Skipped b flag xs ys (d - 1) t u m) → Going s h b family start xs₀ t₀ d₀ ys u d flag
+      go (inl e) = rw (e .0, e .1) g
+      go (inr (zero, k)) = let z = k .some in absurd (omega arith)
+      go (inr (suc m, k)) =
+          let under = q .under in
+          let work : u .work ≡ t .work + suc m = ap (λ (v : Tally). v .work) (k .tally) in
+          let off = rw (k .off) at g in
+          rw (k .off, k .room, k .tally) (many-over xs t d off n le (k .term) m (k .few) (omega arith))
+
+pub passed-none : (b : SearchBudget) (flag : Bool) (xs : List ℕ) (top : ℕ) (t : Tally) → t .work < b .«max_work» → Passed b flag xs xs top t t
+passed-none b flag xs top t l = record { how = inl (refl, refl); under = l; more = omega arith; same = refl; long = refl }
+
+pub passed-some : (b : SearchBudget) (flag : Bool) (xs ys : List ℕ) (top : ℕ) (t r : Tally) (f : Stored) (m : ℕ) → flag ≡ false → f ≡ storedAt xs top → f .terminal ≡ false → (m ≡ 0 → ⊥) → f .«hub_next» < f .«hub_end»
+    → m ≤ f .«hub_end» - f .«hub_next» → m ≤ b .«max_work» - t .work - 1 → t .work < b .«max_work» → ys ≡ put xs top (movedTo f (f .next) (f .«hub_next» + m) (f .«hub_end»)) → r ≡ tookOf t m → Passed b flag xs ys top t r
+passed-some b flag xs ys top t r f m off ef term some lt few under l ey er =
+    record {
+      how = inr (m, record { off = off; term = rw (← ef) term; some = omega arith; few = rw (← ef) (omega arith); room = rw (← ef) ey; tally = er });
+      under = rw er (omega arith);
+      more = rw er (omega arith);
+      same = rw er;
+      long = rw ey (length-put xs top (movedTo f (f .next) (f .«hub_next» + m) (f .«hub_end»)));
+    }
+
+module _ (b : SearchBudget) (flag : Bool) (xs ys : List ℕ) (top : ℕ) (t v : Tally) (q : Passed b flag xs ys top t v) where
+  pub over-evaluations : t .evaluations < b .«max_evaluations» → v .evaluations < b .«max_evaluations»
+  over-evaluations l = rw (q .same) l
+
+  pub over-less : (u : Tally) (k : ℕ) → u ≡ spentOf v k → b .«max_work» - u .work < b .«max_work» - t .work
+  over-less u k e = let m = q .more in let l = q .under in rw e (omega arith)
 
 -- ---- the ways out
 

@@ -2,6 +2,7 @@
 use Prim.Native.Nat.{ℕ, zero, suc, _+_, _-_, _*_, _≤_, _<_}
 use mathlib.Core.Path.{_≡_}
 use mathlib.Core.Bool.{Bool, true, false}
+use mathlib.Core.Logic.{_⊎_}
 use mathlib.Core.List.{List, [], _∷_, _++_}
 use lib.ListN.{length, take, drop, getD, replicate}
 use Rattle.ground.specs.Lists.{sum}
@@ -19,9 +20,9 @@ use Rattle.search.specs.Walk.{Place, Frame}
 use Rattle.search.specs.Run.{Walk, Walked, Phase, going, Ending, exhausted, onWork, onEvaluation, onFrontier, begin, doneWith, run}
 use Rattle.search.specs.Rooms.{frameWidth, stackWords, pendingWords}
 use Rattle.frames.specs.declared.Stored.{Stored}
-use Rattle.frames.specs.Inner.{noSegment, longer, pathAt, storedAt, placeWith, frameOf, stackOf, Linked}
+use Rattle.frames.specs.Inner.{put, noSegment, longer, pathAt, storedAt, placeWith, frameOf, stackOf, Linked}
 use Rattle.landings.specs.declared.Landing.{Landing}
-use Rattle.advance.specs.Inner.{childOf, entered, Sound, Flagged}
+use Rattle.advance.specs.Inner.{movedTo, childOf, entered, Sound, Flagged}
 use Rattle.walks.specs.declared.Standing.{Standing}
 use Rattle.walks.specs.declared.Halt.{Halt}
 use Rattle.walks.specs.declared.Halt.the-variants.{Stopped, Due}
@@ -40,6 +41,11 @@ handedOf t =
 abbrev pub doneOf : Tally → Tally
 doneOf t =
     record { work = t .work; evaluations = t .evaluations; natives = t .natives; donors = t .donors; «non_native» = t .«non_native»; mixed = t .mixed; «mixed_identity» = t .«mixed_identity»; switches = t .switches; families = t .families + 1 }
+
+-- so many members at once
+abbrev pub tookOf : Tally → ℕ → Tally
+tookOf t m =
+    record { work = t .work + m; evaluations = t .evaluations; natives = t .natives; donors = t .donors + m; «non_native» = t .«non_native»; mixed = t .mixed; «mixed_identity» = t .«mixed_identity»; switches = t .switches; families = t .families }
 
 -- ---- what is left to walk
 
@@ -129,6 +135,25 @@ pub record Paused (s : List ℕ) (h : Header) (b : SearchBudget) (xs ys : List �
   pub words : (e : Stop) → r .halt ≡ Stopped e
       → take (usedBy e (r .at .depth) * frameWidth) ys ≡ stackWords (stackOf ys (r .at .depth)) ++ pendingWords (endingOf e (frameOf ys (r .at .depth) .place))
   pub deep : r .at .depth ≤ b .«max_frontier»
+
+-- ---- members passed over
+
+-- m members of the open hub of the frame at top, whose piece is not clear
+pub record Skipped (b : SearchBudget) (flag : Bool) (xs ys : List ℕ) (top : ℕ) (t r : Tally) (m : ℕ) : Type 0 where
+  pub off : flag ≡ false
+  pub term : storedAt xs top .terminal ≡ false
+  pub some : 0 < m
+  pub few : storedAt xs top .«hub_next» + m ≤ storedAt xs top .«hub_end»
+  pub room : ys ≡ put xs top (movedTo (storedAt xs top) (storedAt xs top .next) (storedAt xs top .«hub_next» + m) (storedAt xs top .«hub_end»))
+  pub tally : r ≡ tookOf t m
+
+-- none, or some
+pub record Passed (b : SearchBudget) (flag : Bool) (xs ys : List ℕ) (top : ℕ) (t r : Tally) : Type 0 where
+  pub how : ((ys ≡ xs) × (r ≡ t)) ⊎ ((m : ℕ) × Skipped b flag xs ys top t r m)
+  pub under : r .work < b .«max_work»
+  pub more : t .work ≤ r .work
+  pub same : r .evaluations ≡ t .evaluations
+  pub long : length ys ≡ length xs
 
 -- ---- a walk that stopped
 

@@ -10,7 +10,8 @@ ghost use Rattle.panel.specs.Inner.{Accepted};
 ghost use Rattle.search.specs.Rooms.{frameWidth};
 ghost use Rattle.search.specs.Counters.{statusOf, statusNumber};
 ghost use Rattle.frames.specs.Inner.{put};
-ghost use Rattle.walks.specs.Inner.{rootOf, spentOf, handedOf, doneOf, Walking, Paused, pendingAt, usedBy, zeroed};
+ghost use Rattle.advance.specs.Inner.{movedTo};
+ghost use Rattle.walks.specs.Inner.{rootOf, spentOf, tookOf, handedOf, doneOf, Walking, Paused, Passed, pendingAt, usedBy, zeroed};
 use advance::Action;
 use evaluate::Segment;
 use frames::Stored;
@@ -83,6 +84,64 @@ fn spent(b: SearchBudget, t: Tally, taken: u64) -> Tally
     }
 }
 
+fn smaller(x: u64, y: u64) -> u64
+    ensures { λ r. ⌜ (r ≤ x) × (r ≤ y) ⌝ }
+{
+    if x < y { x } else { y }
+}
+
+// So many members of the open hub are taken.
+fn took(t: Tally, m: u64) -> Tally
+    requires { ⌜ (t .work + m < 0x1_0000_0000_0000_0000) × (t .donors ≤ t .work) ⌝ }
+    ensures { λ r. ⌜ r ≡ tookOf t m ⌝ }
+{
+    Tally {
+        work: t.work + m,
+        donors: t.donors + m,
+        ..t
+    }
+}
+
+// The top's open hub with m members fewer.
+fn skip(frames: &mut [u64], top: usize, f: Stored, m: u64)
+    requires { ⌜ ((top + 1) * frameWidth ≤ length (now frames)) × (f .«hub_next» + m ≤ f .«hub_end») ⌝ }
+    ensures { λ _. ⌜ now (frames .exit) ≡ put (now (frames .entry)) top (movedTo f (f .next) (f .«hub_next» + m) (f .«hub_end»)) ⌝ }
+{
+    let hub_next = f.hub_next + m;
+    frames::put_frame(
+        frames,
+        top,
+        Stored {
+            terminal: false,
+            hub_next,
+            ..f
+        },
+    );
+}
+
+// Where the piece to the top's open hub is not clear, its members are passed over at once, as many as work leaves; one unit is left.
+fn pass_over(b: SearchBudget, frames: &mut [u64], top: usize, clear: bool, t: Tally) -> Tally
+    requires { ⌜ ((top + 1) * frameWidth ≤ length (now frames)) × (t .work < b .«max_work») × (t .donors ≤ t .work) ⌝ }
+    ensures { λ r. ⌜ Passed b clear (now (frames .entry)) (now (frames .exit)) top t r ⌝ }
+{
+    if clear {
+        return t;
+    }
+    let f = frames::frame_at(frames, top);
+    if f.terminal {
+        return t;
+    }
+    if f.hub_end <= f.hub_next {
+        return t;
+    }
+    let m = smaller(f.hub_end - f.hub_next, b.max_work - t.work - 1);
+    if m == 0 {
+        return t;
+    }
+    skip(frames, top, f, m);
+    took(t, m)
+}
+
 // One evaluation more.
 fn handed(b: SearchBudget, t: Tally) -> Tally
     requires { ⌜ t .evaluations < b .«max_evaluations» ⌝ }
@@ -133,6 +192,7 @@ pub fn go_on(
             if t.evaluations >= b.max_evaluations {
                 break 'families Halt::Stopped(Stop::Evaluation);
             }
+            t = pass_over(b, frames, depth - 1, clear, t);
             let turn = advance::advance(image, h, starts, family, frames, depth - 1, clear);
             t = spent(b, t, turn.taken);
             clear = turn.clear;
