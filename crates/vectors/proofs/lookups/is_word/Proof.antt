@@ -1,7 +1,7 @@
 use borrow.Author.Needs.{needs}
 use Prim.Native.Nat.{_≤_, _-_}
-use Rattle.vectors.proofs.is_word.Statement.{statement}
-use Rattle.vectors.proofs.is_word.Tie as tie
+use Rattle.vectors.proofs.lookups.is_word.Statement.{statement}
+use Rattle.vectors.proofs.lookups.is_word.Tie as tie
 
 abbrev Inv-loop : tie.InvT-loop
 Inv-loop w body at i₀ i = i ≤ 4
