@@ -14,11 +14,18 @@ use search::SearchReply;
 
 // ---- the program's rooms: those for max_frontier 32, max_optima 16, P 8
 
-pub const FRAMES: usize = 330;
+const FRONTIER: usize = 32;
 
-pub const KEPT: usize = 2484;
+const OPTIMA: usize = 16;
 
-pub const KEPT_SCORES: usize = 17;
+const PATHS: usize = 8;
+
+pub const FRAMES: usize = (FRONTIER + 1) * frames::Stored::WORDS;
+
+// A slot has V = 2 + P + 4R words, R the larger of max_frontier and P.
+pub const KEPT: usize = (OPTIMA + 2) * (2 + PATHS + evaluate::Segment::WORDS * FRONTIER);
+
+pub const KEPT_SCORES: usize = OPTIMA + 1;
 
 fn frame_room() -> [u64; FRAMES]
     ensures { λ r. ⌜ r ≡ replicate 330 0 ⌝ }
