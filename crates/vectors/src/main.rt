@@ -1,9 +1,10 @@
-// Replays recorded answers of the original against the proved calls (oracle/README.md has the records' form), and prints for
-// each call how many agreed and how many did not.
+// Replays recorded answers of the original (oracle/README.md has the records' form) against the proved calls and what the walk
+// program prints, and says of each kind how many agreed and how many did not.
 
 mod assignments;
 mod listings;
 mod lookups;
+mod printed;
 mod record;
 mod rooms;
 mod searches;
@@ -62,6 +63,7 @@ fn answered(h: Head, image: &[u8], body: &[u8]) -> bool {
         4 => assignments::is_check(image, body, arguments, at),
         5 => listings::is_list(image, body, arguments, at, end),
         6 => searches::is_search(image, body, arguments, at, end),
+        7 => printed::is_job(image, body, at, end),
         _ => false,
     }
 }
@@ -74,6 +76,7 @@ struct Sheet {
     check: Score,
     list: Score,
     search: Score,
+    job: Score,
     unknown: Score,
 }
 
@@ -98,6 +101,9 @@ impl Sheet {
             }
             6 => {
                 s.search = s.search.counted(is_same);
+            }
+            7 => {
+                s.job = s.job.counted(is_same);
             }
             _ => {
                 s.unknown = s.unknown.counted(is_same);
@@ -169,6 +175,7 @@ fn main() {
         check: none,
         list: none,
         search: none,
+        job: none,
         unknown: none,
     };
     let mut turns: u64 = 1000000;
@@ -190,5 +197,6 @@ fn main() {
     print(b"check ", sheet.check);
     print(b"list ", sheet.list);
     print(b"search ", sheet.search);
+    print(b"job ", sheet.job);
     print(b"unknown ", sheet.unknown);
 }
