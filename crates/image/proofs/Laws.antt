@@ -16,8 +16,9 @@ use borrow.Author.Tests.{le-leb, lt-leb, leb-true, eqb-true}
 use Rattle.storage.specs.Bytes.{number}
 use Rattle.ground.specs.Lists.{within, each, split, sum}
 use Rattle.storage.specs.Records.{portOf}
-use Rattle.storage.specs.Inner.{Records}
-use Rattle.storage.specs.Orders.{placeBefore}
+use Rattle.storage.specs.Inner.{Records, Offset}
+use Rattle.storage.specs.Orders.{samePort, placeLt, placeBefore}
+use Rattle.storage.proofs.Laws.{record-is}
 use Rattle.storage.specs.declared.Port.{Port}
 use Rattle.ground.proofs.ListLaws.{both, each-length, each-at, each-from, place-fits, split-at, SumTo, sum-to-start, sum-to-next, sum-to-fits, sum-take-next, sum-take-le, sum-part-le, splits, split-length}
 use Rattle.image.specs.declared.Header.{Header}
@@ -174,6 +175,25 @@ module _ (s : List ℕ) (h : Header) (l : Lane) (stands : Stands s h l) where
 
   lane-here : (i : ℕ) → i < l .count → getD (each (portOf (h .k)) (h .k + 17) (h .ports) (drop (h .«lane_ports_at») s)) (l .start + i) noPort ≡ getD (portsOf h s (l .number)) i noPort
   lane-here i lt = lane-port-is i _ lt refl
+
+  -- record i and the next one
+  pub lane-next-index : (i : ℕ) → i + 1 < l .count → l .start + i + 1 < h .ports
+  lane-next-index i lt = let w = lane-within in omega arith
+
+  pub lane-next-fits : (i : ℕ) → i + 1 < l .count → Fits w64 (l .start + i)
+  lane-next-fits i lt = lane-index-fits i (omega arith)
+
+  pub lane-pair-is : (i : ℕ) (r : Bool) → i + 1 < l .count
+      → r ≡ placeLt (getD (each (portOf (h .k)) (h .k + 17) (h .ports) (drop (h .«lane_ports_at») s)) (l .start + i) noPort) (getD (each (portOf (h .k)) (h .k + 17) (h .ports) (drop (h .«lane_ports_at») s)) (l .start + i + 1) noPort)
+      → r ≡ placeLt (getD (portsOf h s (l .number)) i noPort) (getD (portsOf h s (l .number)) (i + 1) noPort)
+  lane-pair-is i r lt e =
+      let lt′ : i < l .count = omega arith in
+      let next : l .start + i + 1 ≡ l .start + (i + 1) = omega arith in
+      e ∙ rw (next, lane-here i lt′, lane-here (i + 1) lt)
+
+  pub lane-same-is : (i there : ℕ) (p : Port) (r : Bool) → i < l .count → Offset s (h .«lane_ports_at») (h .ports) (h .k) (l .start + i) there → r ≡ samePort p (portOf (h .k) (drop there s))
+      → r ≡ samePort p (getD (portsOf h s (l .number)) i noPort)
+  lane-same-is i there p r lt off e = e ∙ ap (samePort p) (record-is s (h .«lane_ports_at») (h .ports) (h .k) (l .start + i) there off (lane-index i lt) _ refl ∙ lane-here i lt)
 
   pub lane-before-is : (i anchor : ℕ) (reverse r : Bool) → i < l .count
       → r ≡ placeBefore anchor reverse (getD (each (portOf (h .k)) (h .k + 17) (h .ports) (drop (h .«lane_ports_at») s)) (l .start + i) noPort)

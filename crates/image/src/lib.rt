@@ -6,12 +6,12 @@ ghost use mathlib.Core.List.{[]};
 ghost use lib.Dec.{leb, eqb};
 ghost use lib.ListN.{length, drop, take, getD, replicate};
 ghost use Rattle.ground.specs.Lists.{sum, each};
-ghost use Rattle.storage.specs.Orders.{placeBefore};
+ghost use Rattle.storage.specs.Orders.{recordLt, samePort, placeLt, placeBefore};
 ghost use Rattle.storage.specs.Bytes.{number};
 ghost use Rattle.image.specs.Header.{headerOf, sound2, sound3, opened, Bounds};
 ghost use Rattle.image.specs.Image.{entryOf, entries, counts, startOf, lanePorts, portsOf, hub, noEntry, paths, pathCounts, pathsOf};
 ghost use Rattle.image.specs.Inner.{Framed, Counted, Started, Stands, Grouped, Groups};
-ghost use Rattle.storage.specs.Records.{noPort};
+ghost use Rattle.storage.specs.Records.{portOf, noPort, recordSize};
 
 pub struct Header {
     pub k: usize,
@@ -182,12 +182,12 @@ pub fn lane_entry(image: &[u8], h: Header, lane: usize) -> Entry
     entry_at(image, h.lanes_at + lane * Header::ENTRY)
 }
 
-// Record i of the global list.
-pub fn hub_port(image: &[u8], h: Header, i: usize) -> storage::Port
-    requires { ⌜ Framed (now image) h × (i < h .ports) ⌝ }
-    ensures { λ r. ⌜ r ≡ getD (hub h (now (image .entry))) i noPort ⌝ }
+// Whether record i of the global list stands before the next one.
+pub fn is_hub_port_below(image: &[u8], h: Header, i: usize) -> bool
+    requires { ⌜ Framed (now image) h × (i + 1 < h .ports) ⌝ }
+    ensures { λ r. ⌜ r ≡ recordLt (getD (hub h (now (image .entry))) i noPort) (getD (hub h (now (image .entry))) (i + 1) noPort) ⌝ }
 {
-    storage::record_at(image, h.hub_at, h.ports, h.k, i)
+    storage::is_record_before_next(image, h.hub_at, h.ports, h.k, i)
 }
 
 // Word i of a list of n that stands from base on.
@@ -269,6 +269,23 @@ pub fn lane_port(image: &[u8], h: Header, l: Lane, i: usize) -> storage::Port
     ensures { λ r. ⌜ r ≡ getD (portsOf h (now (image .entry)) (l .number)) i noPort ⌝ }
 {
     storage::record_at(image, h.lane_ports_at, h.ports, h.k, l.start + i)
+}
+
+// Whether record i of a lane's list stands before the next one.
+pub fn is_lane_port_below(image: &[u8], h: Header, l: Lane, i: usize) -> bool
+    requires { ⌜ Stands (now image) h l × (i + 1 < l .count) ⌝ }
+    ensures { λ r. ⌜ r ≡ placeLt (getD (portsOf h (now (image .entry)) (l .number)) i noPort) (getD (portsOf h (now (image .entry)) (l .number)) (i + 1) noPort) ⌝ }
+{
+    storage::is_place_before_next(image, h.lane_ports_at, h.ports, h.k, l.start + i)
+}
+
+// Whether the record at a byte offset is record i of a lane's list.
+pub fn is_lane_port(image: &[u8], h: Header, l: Lane, i: usize, at: usize) -> bool
+    requires { ⌜ Stands (now image) h l × (i < l .count) × (at + recordSize (h .k) ≤ length (now image)) ⌝ }
+    ensures { λ r. ⌜ r ≡ samePort (portOf (h .k) (drop at (now (image .entry)))) (getD (portsOf h (now (image .entry)) (l .number)) i noPort) ⌝ }
+{
+    let there = storage::offset(image, h.lane_ports_at, h.ports, h.k, l.start + i);
+    storage::is_same_at(image, at, there, h.k)
 }
 
 // Whether record i of a lane's list stands before a place.

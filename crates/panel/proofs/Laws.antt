@@ -1,7 +1,10 @@
 -- Laws of the panel check.
 use Prim.Native.Nat.{ℕ, zero, suc, _+_, _-_, _*_, _/_, _≤_, _<_}
 use native.Mathlib.Omega.{arith}
-use native.Mathlib.Nat.{eq-or-lt-of-le}
+use native.Mathlib.Nat.{eq-or-lt-of-le, mul-le-mul-right}
+use mir.Val.{Fits}
+use mir.Syntax.{w64}
+use borrow.Author.Needs.{fits-under}
 use mathlib.Core.Path.{_≡_, refl, sym, ap, _∙_}
 use mathlib.Core.Bool.{Bool, true, false, not, _&&_, _||_}
 use mathlib.Core.List.{List, [], _∷_}
@@ -10,19 +13,20 @@ use lib.Dec.{leb, ltb, eqb}
 use lib.ListN.{length, drop, take, getD, replicate, length-drop}
 use lib.Seq.{getD-take, getD-drop, length-take-le}
 use borrow.Author.Tests.{le-leb, lt-leb, leb-true, lt-ltb, le-ltb, ltb-true, leb-false, ne-eqb}
-use Rattle.ground.specs.Lists.{each, split, all, any, count, numbersFrom}
-use Rattle.ground.proofs.ListLaws.{both, each-length, each-from, all-at, Rises, rising-rises, Falls, Cut, cut-up, cut-down, any-at, numbers-at, numbers-length}
+use Rattle.ground.specs.Lists.{each, split, all, any, count, rising, numbersFrom}
+use Rattle.ground.proofs.ListLaws.{both, each-length, each-from, all-at, Rises, rising-rises, Falls, Cut, RisingFrom, rising-start, rising-again, rising-fails, rising-ends, any-at, numbers-at, numbers-length}
 use Rattle.storage.specs.Records.{portOf, noPort}
 use Rattle.storage.specs.Orders.{placeOf, place, placeLt, placeBefore, samePort}
 use Rattle.storage.specs.Inner.{Offset}
 use Rattle.storage.specs.declared.Port.{Port}
+use Rattle.storage.proofs.Laws.{record-is}
 use Rattle.storage.proofs.OrderLaws.{port-same}
 use Rattle.image.specs.declared.Header.{Header}
 use Rattle.image.specs.declared.Entry.{Entry}
 use Rattle.image.specs.declared.Lane.{Lane}
 use Rattle.image.specs.Image.{entries, counts, lanePorts, portsOf, hub, noEntry}
 use Rattle.image.specs.Inner.{Framed, Counted, Stands}
-use Rattle.image.proofs.Laws.{row-length, rows-length, entries-length, lane-port-is, lane-index}
+use Rattle.image.proofs.Laws.{row-length, lane-within, rows-length, entries-length, lane-port-is, lane-index}
 use Rattle.panel.specs.Refusals.{lengthOk, letter, soundPlace, soundPort, soundRecord, soundRecords, isTrue, laneRising, lanesRising, listed, ownRow}
 use Rattle.panel.specs.Inner.{Ordered, Accepted}
 
@@ -96,13 +100,56 @@ before-falls anchor reverse l e p q le m t = go (eq-or-lt-of-le le)
     go (inl same) = rw same t
     go (inr lt) = let r = lane-rises l e p q lt m in lt-ltb (place (getD l p noPort)) (placeOf anchor reverse) (omega (arith, top))
 
-module _ (s : List ℕ) (h : Header) (l : Lane) (anchor : ℕ) (reverse : Bool) (lo hi : ℕ) (r : Bool) (stands : Stands s h l) (rises : laneRising (portsOf h s (l .number)) ≡ true)
-    (so : Cut (placeBefore anchor reverse) (portsOf h s (l .number)) noPort (l .count) lo hi) (lt : lo < hi) (test : r ≡ placeBefore anchor reverse (getD (portsOf h s (l .number)) (lo + (hi - lo) / 2) noPort)) where
-  pub places-up : r ≡ true → Cut (placeBefore anchor reverse) (portsOf h s (l .number)) noPort (l .count) (lo + (hi - lo) / 2 + 1) hi
-  places-up = cut-up (placeBefore anchor reverse) (portsOf h s (l .number)) noPort (l .count) lo hi _ r so lt refl test (row-length s h l stands) (before-falls anchor reverse (portsOf h s (l .number)) rises)
+pub lane-few : (s : List ℕ) (h : Header) (l : Lane) → Stands s h l → l .count ≤ 4194304
+lane-few s h l stands = omega (arith, lane-within s h l stands, stands .counted .framed .fewPorts)
 
-  pub places-down : r ≡ false → Cut (placeBefore anchor reverse) (portsOf h s (l .number)) noPort (l .count) lo (lo + (hi - lo) / 2)
-  places-down = cut-down (placeBefore anchor reverse) (portsOf h s (l .number)) noPort (l .count) lo hi _ r so lt refl test (row-length s h l stands) (before-falls anchor reverse (portsOf h s (l .number)) rises)
+-- the product of an anchor on a lane and its count
+pub evenly-fits : (a len n : ℕ) → a < len → len ≤ 4294967295 → n ≤ 4194304 → Fits w64 (a * n)
+evenly-fits a len n l m few =
+    let x : a ≤ 4294967295 = omega arith in
+    let p = mul-le-mul-right n x in
+    let b : a * n < 18446744073709551615 = omega arith in
+    fits-under w64 (a * n) 18446744073709551615 b tt
+
+-- a turn that looks at any place between
+module _ (s : List ℕ) (h : Header) (l : Lane) (anchor : ℕ) (reverse : Bool) (lo hi at : ℕ) (r : Bool) (stands : Stands s h l) (rises : laneRising (portsOf h s (l .number)) ≡ true)
+    (so : Cut (placeBefore anchor reverse) (portsOf h s (l .number)) noPort (l .count) lo hi) (between : (lo ≤ at) × (at < hi)) (test : r ≡ placeBefore anchor reverse (getD (portsOf h s (l .number)) at noPort)) where
+  falls : Falls (placeBefore anchor reverse) (portsOf h s (l .number)) noPort
+  falls = before-falls anchor reverse (portsOf h s (l .number)) rises
+
+  pub places-up : r ≡ true → Cut (placeBefore anchor reverse) (portsOf h s (l .number)) noPort (l .count) (at + 1) hi
+  places-up e =
+      let w = so .within in
+      let b = between .1 in
+      let long = row-length s h l stands in
+      record { order = omega arith; within = so .within; lower = λ p k. falls p at (omega arith) (omega arith) (sym test ∙ e); rest = so .rest }
+
+  pub places-down : r ≡ false → Cut (placeBefore anchor reverse) (portsOf h s (l .number)) noPort (l .count) lo at
+  places-down e =
+      let w = so .within in
+      let b = between .1 in
+      record { order = between .0; within = omega arith; lower = so .lower; rest = λ q k m. go q k m (placeBefore anchor reverse (getD (portsOf h s (l .number)) q noPort)) refl }
+    where
+      go : (q : ℕ) → at ≤ q → q < l .count → (t : Bool) → placeBefore anchor reverse (getD (portsOf h s (l .number)) q noPort) ≡ t → placeBefore anchor reverse (getD (portsOf h s (l .number)) q noPort) ≡ false
+      go q k m true g = let long = row-length s h l stands in cc (falls at q k (omega arith) g)
+      go q k m false g = g
+
+-- ---- 7
+
+-- a loop that asks whether element i stands in the relation to the next
+module _ {A : Type 0} (d : A) (f : A → A → Bool) (l : List A) (n : ℕ) (long : length l ≡ n) where
+  pub pairs-start : (n ≡ 0 → ⊥) → RisingFrom f l n (getD l 0 d) 1
+  pairs-start ne = rising-start d f l n (getD l 0 d) ne refl long
+
+  module _ (i : ℕ) (so : RisingFrom f l n (getD l i d) (i + 1)) where
+    pub pairs-again : (r : Bool) → i < n - 1 → r ≡ f (getD l i d) (getD l (i + 1) d) → r ≡ true → RisingFrom f l n (getD l (i + 1) d) (i + 1 + 1)
+    pairs-again r lt test = rising-again d f l n (getD l i d) (i + 1) (getD l (i + 1) d) r so (omega arith) refl test long
+
+    pub pairs-fail : (r : Bool) → i < n - 1 → r ≡ f (getD l i d) (getD l (i + 1) d) → r ≡ false → false ≡ rising f l
+    pairs-fail r lt test = rising-fails d f l n (getD l i d) (i + 1) (getD l (i + 1) d) r so (omega arith) refl test long
+
+    pub pairs-end : n - 1 ≤ i → true ≡ rising f l
+    pairs-end le = rising-ends f l n (getD l i d) (i + 1) so (omega arith) long
 
 -- ---- 8
 
@@ -120,29 +167,32 @@ listed-is s h g n e rises =
     ap (λ (m : ℕ). any (samePort g) (portsOf h s m)) (sym e)
     ∙ any-at place noPort (samePort g) (placeBefore (g .anchor) (g .reverse)) (place g) (same-place g) (before-is g) (portsOf h s n) (lane-rises (portsOf h s n) rises)
 
-module _ (s : List ℕ) (h : Header) (g : Port) (l : Lane) (i : ℕ) (stands : Stands s h l) (e : l .number ≡ g .source) (rows : lanesRising h s ≡ true)
-    (at : i ≡ count (placeBefore (g .anchor) (g .reverse)) (portsOf h s (l .number))) where
-  pub row-rising : laneRising (portsOf h s (l .number)) ≡ true
-  unfolding lanesRising portsOf
-  row-rising =
-      let room : l .number < length (split (counts h s) (lanePorts h s)) = rw (rows-length s h (stands .counted .framed)) (stands .lane) in
-      all-at [] laneRising (split (counts h s) (lanePorts h s)) (l .number) rows room
+-- the row of a lane rises
+pub row-rises : (s : List ℕ) (h : Header) (l : Lane) → Stands s h l → lanesRising h s ≡ true → laneRising (portsOf h s (l .number)) ≡ true
+unfolding lanesRising portsOf
+row-rises s h l stands rows =
+    let room : l .number < length (split (counts h s) (lanePorts h s)) = rw (rows-length s h (stands .counted .framed)) (stands .lane) in
+    all-at [] laneRising (split (counts h s) (lanePorts h s)) (l .number) rows room
 
-  pub listed-told : (p : Port) (r : Bool) → i < l .count → p ≡ getD (portsOf h s (l .number)) i noPort → r ≡ samePort g p → r ≡ listed h s g
-  listed-told p r lt is t =
-      let n = row-length s h l stands in
+-- a record whose lane, anchor and orientation were read
+module _ (s : List ℕ) (h : Header) (g : Port) (l : Lane) (i source anchor : ℕ) (reverse : Bool) (stands : Stands s h l) (rows : lanesRising h s ≡ true) (n : l .number ≡ source) (es : source ≡ g .source)
+    (ea : anchor ≡ g .anchor) (er : reverse ≡ g .reverse) (at : i ≡ count (placeBefore anchor reverse) (portsOf h s (l .number))) where
+  listed-here : listed h s g ≡ (ltb i (length (portsOf h s (l .number))) && samePort g (getD (portsOf h s (l .number)) i noPort))
+  listed-here =
+      let at′ : i ≡ count (placeBefore (g .anchor) (g .reverse)) (portsOf h s (l .number)) = at ∙ rw (ea, er) in
+      listed-is s h g (l .number) (n ∙ es) (row-rises s h l stands rows) ∙ rw (← at′)
+
+  pub listed-told : (r : Bool) → i < l .count → r ≡ samePort g (getD (portsOf h s (l .number)) i noPort) → r ≡ listed h s g
+  listed-told r lt t =
+      let m = row-length s h l stands in
       let room : i < length (portsOf h s (l .number)) = omega arith in
-      t ∙ rw is (sym (listed-is s h g (l .number) e row-rising ∙ rw (← at, lt-ltb i (length (portsOf h s (l .number))) room)))
+      t ∙ sym (listed-here ∙ rw (lt-ltb i (length (portsOf h s (l .number))) room))
 
   pub listed-none : l .count ≤ i → false ≡ listed h s g
   listed-none le =
-      let n = row-length s h l stands in
+      let m = row-length s h l stands in
       let none : length (portsOf h s (l .number)) ≤ i = omega arith in
-      sym (listed-is s h g (l .number) e row-rising ∙ rw (← at, le-ltb i (length (portsOf h s (l .number))) none))
-
--- the row of a lane rises, before anything is looked for in it
-pub row-rises : (s : List ℕ) (h : Header) (l : Lane) → Stands s h l → lanesRising h s ≡ true → laneRising (portsOf h s (l .number)) ≡ true
-row-rises s h l stands rows = row-rising s h (record { word = replicate 32 0; source = l .number; anchor = 0; reverse = false }) l _ stands refl rows refl
+      sym (listed-here ∙ rw (le-ltb i (length (portsOf h s (l .number))) none))
 
 pub hub-named : (s : List ℕ) (h : Header) (i : ℕ) (g : Port) → Ordered s h → i < h .ports → g ≡ getD (hub h s) i noPort → g .source < h .lanes
 unfolding hub soundRecords soundRecord soundPlace
@@ -162,8 +212,17 @@ hub-named s h i g o lt is =
 pub number-told : (s : List ℕ) (h : Header) (l : Lane) (lane : ℕ) (r : Bool) → l .number ≡ lane → r ≡ laneRising (portsOf h s (l .number)) → r ≡ laneRising (portsOf h s lane)
 number-told s h l lane r e t = t ∙ ap (λ (n : ℕ). laneRising (portsOf h s n)) e
 
-pub listed-at-told : (s : List ℕ) (h : Header) (i : ℕ) (g : Port) (r : Bool) → g ≡ getD (hub h s) i noPort → r ≡ listed h s g → r ≡ listed h s (getD (hub h s) i noPort)
-listed-at-told s h i g r e t = t ∙ ap (listed h s) e
+-- the global record at its byte offset
+module _ (s : List ℕ) (h : Header) (i at : ℕ) (off : Offset s (h .«hub_at») (h .ports) (h .k) i at) (lt : i < h .ports) where
+  hub-here : portOf (h .k) (drop at s) ≡ getD (hub h s) i noPort
+  unfolding hub
+  hub-here = record-is s (h .«hub_at») (h .ports) (h .k) i at off lt _ refl
+
+  pub hub-named-at : Ordered s h → portOf (h .k) (drop at s) .source < h .lanes
+  hub-named-at o = hub-named s h i _ o lt hub-here
+
+  pub listed-at-told : (r : Bool) → r ≡ listed h s (portOf (h .k) (drop at s)) → r ≡ listed h s (getD (hub h s) i noPort)
+  listed-at-told r t = t ∙ ap (listed h s) hub-here
 
 -- ---- what the tests say of one record
 

@@ -5,9 +5,10 @@ ghost use mathlib.Core.Bool.{Bool, true};
 ghost use lib.Dec.{eqb};
 ghost use lib.ListN.{length, drop, take, getD};
 ghost use Rattle.ground.specs.Lists.{sum, each, all, count, numbersFrom};
-ghost use Rattle.storage.specs.Records.{noPort, recordSize};
+ghost use Rattle.storage.specs.Records.{portOf, noPort, recordSize};
 ghost use Rattle.storage.specs.Orders.{placeBefore};
 ghost use Rattle.storage.specs.Inner.{Records};
+ghost use Rattle.image.specs.Sizes.{mostPorts};
 ghost use Rattle.image.specs.Image.{entries, counts, portsOf, hub, noEntry};
 ghost use Rattle.image.specs.Inner.{Framed, Counted, Started, Stands};
 ghost use Rattle.panel.specs.Refusals.{lengthOk, sound4, letter, soundPlace, soundRecord, soundRecords, from, ownRow, ownRows, sound6, laneRising, lanesRising, hubRising, sound7, listed, sound8};
@@ -232,12 +233,10 @@ fn is_hub_rising(image: &[u8], h: image::Header) -> bool
     if n == 0 {
         return true;
     }
-    let mut last = image::hub_port(image, h, 0);
-    let mut i = 1;
-    while i < n {
-        let next = image::hub_port(image, h, i);
-        if storage::is_record_below(last, next) {
-            last = next;
+    let last = n - 1;
+    let mut i = 0;
+    while i < last {
+        if image::is_hub_port_below(image, h, i) {
             i += 1;
         } else {
             return false;
@@ -254,12 +253,10 @@ fn is_lane_rising(image: &[u8], h: image::Header, l: image::Lane) -> bool
     if n == 0 {
         return true;
     }
-    let mut last = image::lane_port(image, h, l, 0);
-    let mut i = 1;
-    while i < n {
-        let next = image::lane_port(image, h, l, i);
-        if storage::is_place_below(last, next) {
-            last = next;
+    let last = n - 1;
+    let mut i = 0;
+    while i < last {
+        if image::is_lane_port_below(image, h, l, i) {
             i += 1;
         } else {
             return false;
@@ -306,7 +303,49 @@ pub fn are_rising(image: &[u8], h: image::Header, starts: &[usize; image::Header
 
 // ---- 8
 
-// How many ports of a lane stand before a place of its list: a binary search.
+// Where a place would stand in a lane's list if the ports stood evenly on the lane.
+fn evenly(l: image::Lane, anchor: u64) -> usize
+    requires { ⌜ l .count ≤ mostPorts ⌝ }
+{
+    let len = l.len as usize;
+    let at = anchor as usize;
+    if image::Header::LENGTH < len {
+        return 0;
+    }
+    if at < len {
+        at * l.count / len
+    } else {
+        l.count
+    }
+}
+
+fn doubled(step: usize) -> usize {
+    if step < image::Header::PORTS {
+        step * 2 + 1
+    } else {
+        step
+    }
+}
+
+fn least(a: usize, b: usize) -> usize
+    ensures { λ r. ⌜ (r ≤ a) × (r ≤ b) ⌝ }
+{
+    if a < b { a } else { b }
+}
+
+// Where to look next between lo and hi: near a place, and from there by steps of at most half of what is left.
+fn probe(lo: usize, hi: usize, near: usize, step: usize) -> usize
+    requires { ⌜ lo < hi ⌝ }
+    ensures { λ r. ⌜ (lo ≤ r) × (r < hi) ⌝ }
+{
+    let far = least(step, (hi - lo) / 2);
+    if near < lo {
+        return lo + far;
+    }
+    if near < hi { near } else { hi - 1 - far }
+}
+
+// How many ports of a lane stand before a place of its list: a search from where it would stand evenly, by growing steps, then by halves.
 pub fn places_before(
     image: &[u8],
     h: image::Header,
@@ -317,34 +356,40 @@ pub fn places_before(
     requires { ⌜ Stands (now image) h l × (laneRising (portsOf h (now image) (l .number)) ≡ true) ⌝ }
     ensures { λ r. ⌜ r ≡ count (placeBefore anchor reverse) (portsOf h (now (image .entry)) (l .number)) ⌝ }
 {
+    let near = evenly(l, anchor);
+    let mut step = 0;
     let mut lo = 0;
     let mut hi = l.count;
     while lo < hi {
-        let mid = lo + (hi - lo) / 2;
-        if image::is_lane_port_before(image, h, l, mid, anchor, reverse) {
-            lo = mid + 1;
+        let at = probe(lo, hi, near, step);
+        step = doubled(step);
+        if image::is_lane_port_before(image, h, l, at, anchor, reverse) {
+            lo = at + 1;
         } else {
-            hi = mid;
+            hi = at;
         }
     }
     lo
 }
 
-// Whether a global record is in its lane's list.
+// Whether the global record at a byte offset is in its lane's list.
 fn is_listed(
     image: &[u8],
     h: image::Header,
     starts: &[usize; image::Header::LANES],
-    g: storage::Port,
+    at: usize,
 ) -> bool
-    requires { ⌜ Started (now image) h (now starts) × (lanesRising h (now image) ≡ true) × (g .source < h .lanes) ⌝ }
-    ensures { λ r. ⌜ r ≡ listed h (now (image .entry)) g ⌝ }
+    requires { ⌜ Started (now image) h (now starts) × (lanesRising h (now image) ≡ true) × (at + recordSize (h .k) ≤ length (now image)) × (portOf (h .k) (drop at (now image)) .source < h .lanes) ⌝ }
+    ensures { λ r. ⌜ r ≡ listed h (now (image .entry)) (portOf (h .k) (drop at (now (image .entry)))) ⌝ }
 {
-    let l = image::lane_of(image, h, starts, g.source as usize);
-    let i = places_before(image, h, l, g.anchor, g.reverse);
+    let k = h.k;
+    let source = storage::source_at(image, at, k);
+    let anchor = storage::anchor_at(image, at, k);
+    let reverse = storage::reverse_at(image, at, k);
+    let l = image::lane_of(image, h, starts, source as usize);
+    let i = places_before(image, h, l, anchor, reverse);
     if i < l.count {
-        let p = image::lane_port(image, h, l, i);
-        storage::is_same_port(g, p)
+        image::is_lane_port(image, h, l, i, at)
     } else {
         false
     }
@@ -359,8 +404,8 @@ fn is_listed_at(
     requires { ⌜ Ordered (now image) h × Started (now image) h (now starts) × (i < h .ports) ⌝ }
     ensures { λ r. ⌜ r ≡ listed h (now (image .entry)) (getD (hub h (now (image .entry))) i noPort) ⌝ }
 {
-    let g = image::hub_port(image, h, i);
-    is_listed(image, h, starts, g)
+    let at = storage::offset(image, h.hub_at, h.ports, h.k, i);
+    is_listed(image, h, starts, at)
 }
 
 pub fn are_listed(image: &[u8], h: image::Header, starts: &[usize; image::Header::LANES]) -> bool

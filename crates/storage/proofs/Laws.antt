@@ -121,6 +121,13 @@ module _ (s : List ℕ) (base n k i at : ℕ) (off : Offset s base n k i at) (lt
   pub before-is : (anchor : ℕ) (reverse r : Bool) → r ≡ placeBefore anchor reverse (portOf k (drop at s)) → r ≡ placeBefore anchor reverse (getD (each (portOf k) (k + 17) n (drop base s)) i noPort)
   before-is anchor reverse r e = e ∙ ap (placeBefore anchor reverse) record-here
 
+-- record i and the next one
+module _ (s : List ℕ) (base n k i at next : ℕ) (here : Offset s base n k i at) (there : Offset s base n k (i + 1) next) (lt : i + 1 < n) (f : Port → Port → Bool) where
+  pub pair-is : (r : Bool) → r ≡ f (portOf k (drop at s)) (portOf k (drop next s)) → r ≡ f (getD (each (portOf k) (k + 17) n (drop base s)) i noPort) (getD (each (portOf k) (k + 17) n (drop base s)) (i + 1) noPort)
+  pair-is r e =
+      let lt′ : i < n = omega arith in
+      e ∙ rw (record-here s base n k i at here lt′, record-here s base n k (i + 1) next there lt)
+
 -- ---- cuts
 
 pub offset-reverse : (k : ℕ) (r : Bool) → r ≡ true → k - k / 2 ≡ cutOffset k r

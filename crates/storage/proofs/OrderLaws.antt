@@ -12,9 +12,9 @@ use lib.Seq.{getD-take, getD-drop, length-take-le}
 use borrow.Author.Tests.{lt-ltb, le-ltb, ltb-true, ltb-false}
 use Rattle.ground.specs.Lists.{pick}
 use Rattle.storage.proofs.Laws.{drop-next}
-use Rattle.storage.specs.Records.{padded}
+use Rattle.storage.specs.Records.{padded, portOf}
 use Rattle.storage.specs.Orders.{andThen, numOrder, flagOrder, wordOrder, portOrder, isLess, isEqual, isGreater, recordLt, samePort, turn, placeOf, place, placeLt, placeBefore, wordBelow, wordUpTo}
-use Rattle.storage.specs.Inner.{SameUpTo, beAt, BytesAt, Lead}
+use Rattle.storage.specs.Inner.{SameUpTo, restOrder, beAt, BytesAt, Lead}
 use Rattle.storage.specs.declared.Port.{Port}
 use Rattle.storage.specs.declared.Order.{Order}
 use Rattle.storage.specs.declared.Order.the-variants.{Less, Equal, Greater}
@@ -386,23 +386,6 @@ module _ (a b : ℕ) (t u : Bool) where
         go true q = let g : turn u ≡ 1 = ap turn q in q ∙ sym (lt-ltb (2 * a + turn t) (2 * b + turn u) (omega (arith, f)))
         go false q = let g : turn u ≡ 0 = ap turn q in q ∙ sym (le-ltb (2 * a + turn t) (2 * b + turn u) (omega (arith, f)))
 
-module _ (p q : Port) where
-  pub lane-less : p .anchor < q .anchor → true ≡ placeLt p q
-  unfolding placeLt
-  lane-less = place-less (p .anchor) (q .anchor) (p .reverse) (q .reverse)
-
-  pub lane-more : q .anchor < p .anchor → false ≡ placeLt p q
-  unfolding placeLt
-  lane-more = place-more (p .anchor) (q .anchor) (p .reverse) (q .reverse)
-
-  pub lane-turned : q .anchor ≤ p .anchor → p .anchor ≤ q .anchor → p .reverse ≡ true → false ≡ placeLt p q
-  unfolding placeLt
-  lane-turned = place-turned (p .anchor) (q .anchor) (p .reverse) (q .reverse)
-
-  pub lane-turn : q .anchor ≤ p .anchor → p .anchor ≤ q .anchor → p .reverse ≡ false → q .reverse ≡ placeLt p q
-  unfolding placeLt
-  lane-turn = place-turn (p .anchor) (q .anchor) (p .reverse) (q .reverse)
-
 -- a record whose anchor and orientation were read, before a place
 module _ (p : Port) (here anchor : ℕ) (reverse : Bool) (eh : here ≡ p .anchor) where
   pub before-less : here < anchor → true ≡ placeBefore anchor reverse p
@@ -429,3 +412,42 @@ place-one a b true true e = (omega arith, refl)
 place-one a b true false e = absurd (omega arith)
 place-one a b false true e = absurd (omega arith)
 place-one a b false false e = (omega arith, refl)
+
+-- ---- records compared where they stand
+
+pub rest-told : (p q : Port) (sa sb aa ab : ℕ) (ra rb : Bool) (anchors flags last sources r : Order) → aa ≡ p .anchor → ab ≡ q .anchor → anchors ≡ numOrder aa ab → ra ≡ p .reverse → rb ≡ q .reverse
+    → flags ≡ flagOrder ra rb → last ≡ andThen anchors flags → sa ≡ p .source → sb ≡ q .source → sources ≡ numOrder sa sb → r ≡ andThen sources last → r ≡ restOrder p q
+unfolding restOrder
+rest-told p q sa sb aa ab ra rb anchors flags last sources r ea eb en fa fb ef el ha hb eh er = rw (er, eh, el, ef, en, ea, eb, fa, fb, ha, hb)
+
+-- the letters of two records, and their order
+module _ (xs : List ℕ) (a b k : ℕ) (o : Order) (ra : a + (k + 17) ≤ length xs) (rb : b + (k + 17) ≤ length xs) (e : o ≡ wordOrder (take (length (take (b + k - b) (drop b xs))) (drop a xs)) (take (b + k - b) (drop b xs))) where
+  letters-of : portOrder (portOf k (drop a xs)) (portOf k (drop b xs)) ≡ andThen o (restOrder (portOf k (drop a xs)) (portOf k (drop b xs)))
+  unfolding portOrder portOf restOrder
+  letters-of =
+      let la : length (take k (drop a xs)) ≡ k = length-take-le k (drop a xs) (rw length-drop (omega arith)) in
+      let lb : length (take k (drop b xs)) ≡ k = length-take-le k (drop b xs) (rw length-drop (omega arith)) in
+      let d : b + k - b ≡ k = omega arith in
+      let order : o ≡ wordOrder (take k (drop a xs)) (take k (drop b xs)) = e ∙ rw (d, lb) in
+      rw (order, padded-order (take k (drop a xs)) (take k (drop b xs)) k la lb)
+
+  pub compared-less : o ≡ Less → Less ≡ portOrder (portOf k (drop a xs)) (portOf k (drop b xs))
+  compared-less f = sym (letters-of ∙ rw f)
+
+  pub compared-greater : o ≡ Greater → Greater ≡ portOrder (portOf k (drop a xs)) (portOf k (drop b xs))
+  compared-greater f = sym (letters-of ∙ rw f)
+
+  pub compared-equal : (r : Order) → o ≡ Equal → r ≡ restOrder (portOf k (drop a xs)) (portOf k (drop b xs)) → r ≡ portOrder (portOf k (drop a xs)) (portOf k (drop b xs))
+  compared-equal r f g = g ∙ sym (letters-of ∙ rw f)
+
+pub less-told : (p q : Port) (o : Order) (r : Bool) → o ≡ portOrder p q → r ≡ isLess o → r ≡ recordLt p q
+unfolding recordLt
+less-told p q o r e f = f ∙ ap isLess e
+
+pub same-told : (p q : Port) (o : Order) (r : Bool) → o ≡ portOrder p q → r ≡ isEqual o → r ≡ samePort p q
+unfolding samePort
+same-told p q o r e f = f ∙ ap isEqual e
+
+pub place-told : (p q : Port) (anchor : ℕ) (reverse r : Bool) → anchor ≡ q .anchor → reverse ≡ q .reverse → r ≡ placeBefore anchor reverse p → r ≡ placeLt p q
+unfolding placeBefore placeLt
+place-told p q anchor reverse r ea er f = f ∙ rw (ea, er)

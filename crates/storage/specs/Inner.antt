@@ -6,7 +6,9 @@ use mathlib.Core.List.{List}
 use lib.ListN.{length, drop, getD}
 use Rattle.ground.specs.Lists.{each, rising}
 use Rattle.storage.specs.Records.{portOf, recordSize, longestWord}
-use Rattle.storage.specs.Orders.{wordOrder, recordLt}
+use Rattle.storage.specs.Orders.{andThen, numOrder, flagOrder, wordOrder, recordLt}
+use Rattle.storage.specs.declared.Port.{Port}
+use Rattle.storage.specs.declared.Order.{Order}
 
 -- the n bytes from a place on, read one by one
 abbrev pub leAt : ℕ → List ℕ → ℕ → ℕ
@@ -30,6 +32,13 @@ pub record Lead (xs : List ℕ) (at r : ℕ) : Type 0 where
 -- two words that are the same up to letter i
 abbrev pub SameUpTo : List ℕ → List ℕ → ℕ → Type 0
 SameUpTo a b i = wordOrder a b ≡ wordOrder (drop i a) (drop i b)
+
+-- the order of records with one word: by source, anchor, and forward before reverse
+unfoldable pub restOrder : Port → Port → Order
+restOrder a b =
+    andThen (numOrder (a .source) (b .source))
+    (andThen (numOrder (a .anchor) (b .anchor))
+    (flagOrder (a .reverse) (b .reverse)))
 
 -- a byte as a number: the same number, below 256
 pub record Widened (x r : ℕ) : Type 0 where

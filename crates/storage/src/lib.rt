@@ -6,7 +6,7 @@ ghost use Rattle.ground.specs.Lists.{each, count};
 ghost use Rattle.storage.specs.Bytes.{number};
 ghost use Rattle.storage.specs.Records.{padded, portOf, cutOffset, cutOf, sameTurn, standsAt, noPort, recordSize, longestWord};
 ghost use Rattle.storage.specs.Orders.{andThen, numOrder, flagOrder, wordOrder, portOrder, isLess, isEqual, isGreater, recordLt, samePort, placeLt, placeBefore, wordBelow, wordUpTo, bucketOf};
-ghost use Rattle.storage.specs.Inner.{leAt, Lead, Widened, SameUpTo, Records, Sorted, Offset};
+ghost use Rattle.storage.specs.Inner.{leAt, Lead, Widened, SameUpTo, restOrder, Records, Sorted, Offset};
 
 // ---- words
 
@@ -195,38 +195,6 @@ fn flag_order(x: bool, y: bool) -> Order
     }
 }
 
-fn word_order(a: Port, b: Port) -> Order
-    ensures { λ r. ⌜ r ≡ wordOrder (a .word) (b .word) ⌝ }
-{
-    let mut i = 0;
-    while i < 32 {
-        let x = a.word[i];
-        let y = b.word[i];
-        if x < y {
-            return Order::Less;
-        }
-        if y < x {
-            return Order::Greater;
-        }
-        i += 1;
-    }
-    Order::Equal
-}
-
-// By word, source, anchor, and forward before reverse.
-pub fn compare(a: Port, b: Port) -> Order
-    ensures { λ r. ⌜ r ≡ portOrder a b ⌝ }
-{
-    let last = and_then(
-        num_order(a.anchor, b.anchor),
-        flag_order(a.reverse, b.reverse),
-    );
-    and_then(
-        word_order(a, b),
-        and_then(num_order(a.source, b.source), last),
-    )
-}
-
 fn is_less(o: Order) -> bool
     ensures { λ r. ⌜ r ≡ isLess o ⌝ }
 {
@@ -245,32 +213,6 @@ fn is_equal(o: Order) -> bool
         Order::Equal => true,
         Order::Greater => false,
     }
-}
-
-// Whether a record stands before another in the global list.
-pub fn is_record_below(a: Port, b: Port) -> bool
-    ensures { λ r. ⌜ r ≡ recordLt a b ⌝ }
-{
-    is_less(compare(a, b))
-}
-
-pub fn is_same_port(a: Port, b: Port) -> bool
-    ensures { λ r. ⌜ r ≡ samePort a b ⌝ }
-{
-    is_equal(compare(a, b))
-}
-
-// Whether a record stands before another in a lane's list: forward before reverse at one anchor.
-pub fn is_place_below(a: Port, b: Port) -> bool
-    ensures { λ r. ⌜ r ≡ placeLt a b ⌝ }
-{
-    if a.anchor < b.anchor {
-        return true;
-    }
-    if b.anchor < a.anchor {
-        return false;
-    }
-    if a.reverse { false } else { b.reverse }
 }
 
 // ---- lists of records: n that stand from base on
@@ -305,7 +247,7 @@ pub fn source_at(image: &[u8], at: usize, k: usize) -> u64
     word_at(image, at + k)
 }
 
-fn reverse_at(image: &[u8], at: usize, k: usize) -> bool
+pub fn reverse_at(image: &[u8], at: usize, k: usize) -> bool
     requires { ⌜ at + recordSize k ≤ length (now image) ⌝ }
     ensures { λ r. ⌜ r ≡ portOf k (drop at (now (image .entry))) .reverse ⌝ }
 {
@@ -341,14 +283,11 @@ fn is_before_at(image: &[u8], at: usize, k: usize, anchor: u64, reverse: bool) -
     if anchor < here {
         return false;
     }
-    if reverse_at(image, at, k) {
-        false
-    } else {
-        reverse
-    }
+    let turned = reverse_at(image, at, k);
+    if turned { false } else { reverse }
 }
 
-// Whether record i stands before a place of its lane's list.
+// Whether record i stands before a place of its lane's list: by anchor, and forward before reverse.
 pub fn is_before(
     image: &[u8],
     base: usize,
@@ -509,4 +448,64 @@ pub fn bucket(image: &[u8], base: usize, n: usize, k: usize, word: &[u8]) -> Mem
     let lo = lower(image, base, n, k, word);
     let hi = upper(image, base, n, k, word, lo);
     Members { lo, hi }
+}
+
+// ---- records compared where they stand
+
+// The order of the records at two byte offsets, where they have one word.
+fn rest_order(image: &[u8], a: usize, b: usize, k: usize) -> Order
+    requires { ⌜ (a + recordSize k ≤ length (now image)) × (b + recordSize k ≤ length (now image)) ⌝ }
+    ensures { λ r. ⌜ r ≡ restOrder (portOf k (drop a (now (image .entry)))) (portOf k (drop b (now (image .entry)))) ⌝ }
+{
+    let last = and_then(
+        num_order(anchor_at(image, a, k), anchor_at(image, b, k)),
+        flag_order(reverse_at(image, a, k), reverse_at(image, b, k)),
+    );
+    and_then(
+        num_order(source_at(image, a, k), source_at(image, b, k)),
+        last,
+    )
+}
+
+// By word, source, anchor, and forward before reverse.
+fn compare_at(image: &[u8], a: usize, b: usize, k: usize) -> Order
+    requires { ⌜ (a + recordSize k ≤ length (now image)) × (b + recordSize k ≤ length (now image)) ⌝ }
+    ensures { λ r. ⌜ r ≡ portOrder (portOf k (drop a (now (image .entry)))) (portOf k (drop b (now (image .entry)))) ⌝ }
+{
+    let word = &image[b..b + k];
+    match letters_order(image, a, word) {
+        Order::Less => Order::Less,
+        Order::Equal => rest_order(image, a, b, k),
+        Order::Greater => Order::Greater,
+    }
+}
+
+// Whether record i stands before the next one in the global list.
+pub fn is_record_before_next(image: &[u8], base: usize, n: usize, k: usize, i: usize) -> bool
+    requires { ⌜ Records (now image) base n k × (i + 1 < n) ⌝ }
+    ensures { λ r. ⌜ r ≡ recordLt (getD (each (portOf k) (recordSize k) n (drop base (now (image .entry)))) i noPort) (getD (each (portOf k) (recordSize k) n (drop base (now (image .entry)))) (i + 1) noPort) ⌝ }
+{
+    let at = offset(image, base, n, k, i);
+    let next = offset(image, base, n, k, i + 1);
+    is_less(compare_at(image, at, next, k))
+}
+
+// Whether record i stands before the next one in a lane's list.
+pub fn is_place_before_next(image: &[u8], base: usize, n: usize, k: usize, i: usize) -> bool
+    requires { ⌜ Records (now image) base n k × (i + 1 < n) ⌝ }
+    ensures { λ r. ⌜ r ≡ placeLt (getD (each (portOf k) (recordSize k) n (drop base (now (image .entry)))) i noPort) (getD (each (portOf k) (recordSize k) n (drop base (now (image .entry)))) (i + 1) noPort) ⌝ }
+{
+    let at = offset(image, base, n, k, i);
+    let next = offset(image, base, n, k, i + 1);
+    let anchor = anchor_at(image, next, k);
+    let reverse = reverse_at(image, next, k);
+    is_before_at(image, at, k, anchor, reverse)
+}
+
+// Whether two records are one.
+pub fn is_same_at(image: &[u8], a: usize, b: usize, k: usize) -> bool
+    requires { ⌜ (a + recordSize k ≤ length (now image)) × (b + recordSize k ≤ length (now image)) ⌝ }
+    ensures { λ r. ⌜ r ≡ samePort (portOf k (drop a (now (image .entry)))) (portOf k (drop b (now (image .entry)))) ⌝ }
+{
+    is_equal(compare_at(image, a, b, k))
 }

@@ -1,18 +1,21 @@
-use Prim.Native.Nat.{_-_}
-use Rattle.image.specs.Image.{portsOf}
-use Rattle.panel.specs.Refusals.{laneRising}
-use Rattle.storage.specs.Orders.{placeLt}
-use Rattle.image.proofs.Laws.{row-length}
-use Rattle.ground.proofs.ListLaws.{RisingFrom, rising-none, rising-start, rising-again, rising-fails, rising-ends}
 use borrow.Author.Needs.{needs}
+use lib.ListN.{getD}
+use Rattle.storage.specs.Records.{noPort}
+use Rattle.storage.specs.Orders.{placeLt}
+use Rattle.panel.specs.Refusals.{laneRising}
+use Rattle.panel.proofs.Laws.{pairs-again, pairs-end, pairs-fail, pairs-start}
+use Rattle.image.specs.Image.{portsOf}
+use Rattle.image.proofs.Laws.{row-length}
+use Rattle.ground.proofs.ListLaws.{RisingFrom, rising-none}
+use Prim.Native.Nat.{_+_, _-_}
 use Rattle.panel.proofs.is_lane_rising.Statement.{statement}
 use Rattle.panel.proofs.is_lane_rising.Tie as tie
 
 abbrev Inv-loop : tie.InvT-loop
-Inv-loop image h l n last₀ i₀ last i = RisingFrom placeLt (portsOf h image (l .number)) n last i
+Inv-loop image h l n last i₀ i = RisingFrom placeLt (portsOf h image (l .number)) n (getD (portsOf h image (l .number)) i noPort) (i + 1)
 
 abbrev μ-loop : tie.MeasureT-loop
-μ-loop image h l n last₀ i₀ last i = n - i
+μ-loop image h l n last i₀ i = n - i
 
 pub is-lane-rising-spec : {M : Type 1} → statement M
 unfolding laneRising
@@ -20,12 +23,11 @@ is-lane-rising-spec =
     tie.close
     (tie.spec Inv-loop μ-loop
     (λ c. search (rising-none, row-length))  -- returns
-    (λ c κs. search needs)  -- lane-port-requires
-    (λ c. search (rising-start, row-length))  -- loop-holds
-    (λ c κs. search needs)  -- lane-port-requires-2
-    (λ c κs. search needs)  -- is-place-below-requires
+    (λ c. search needs)  -- sub-last
+    (λ c. pairs-start noPort placeLt _ _ (row-length _ _ _ (c .before .before .pre)) (c .if1 .left))  -- loop-holds
+    (λ c κs. search needs)  -- is-lane-port-below-requires
     (λ c. search needs)  -- add-i
     (λ c. search needs)  -- loop-less
-    (λ c. search (rising-again, row-length))  -- loop-again
-    (λ c. search (rising-fails, row-length))  -- returns-2
-    (λ c. search (rising-ends, row-length)))  -- returns-3
+    (λ c. pairs-again noPort placeLt _ _ (row-length _ _ _ (c .before .before .before .before .before .before .pre)) _ (c .before .before .before .loop .inv) _ (c .before .before .loop-test .taken) (c .before .is-lane-port-below .ensures) (c .if2 .taken))  -- loop-again
+    (λ c. pairs-fail noPort placeLt _ _ (row-length _ _ _ (c .before .before .before .before .before .before .pre)) _ (c .before .before .before .loop .inv) _ (c .before .before .loop-test .taken) (c .before .is-lane-port-below .ensures) (c .if2 .left))  -- returns-2
+    (λ c. pairs-end noPort placeLt _ _ (row-length _ _ _ (c .before .before .before .before .pre)) _ (c .before .loop .inv) (c .loop-test .left)))  -- returns-3
