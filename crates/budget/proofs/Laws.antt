@@ -17,7 +17,8 @@ use mir.Syntax.{w64}
 use borrow.Author.Needs.{fits-under}
 use Rattle.ground.specs.Lists.{split, sum}
 use Rattle.ground.proofs.ListLaws.{both, drop-next-of}
-use Rattle.evaluate.specs.Refusals.{unless}
+use Rattle.evaluate.specs.declared.Refusal.{Refusal}
+use Rattle.evaluate.specs.Refusals.{at, unless}
 use Rattle.image.specs.declared.Header.{Header}
 use Rattle.image.specs.Image.{pathCounts, paths, families}
 use Rattle.image.specs.Inner.{Grouped}
@@ -117,6 +118,13 @@ width-small s h b g k =
     rw (width-of s h b g) (omega arith)
 
 -- ---- the refusals
+
+pub at-some : (n place : ℕ) (later : Refusal) → 0 < n → at n place later ≡ record { number = n; place = place }
+at-some zero place later h = let z : ⊥ = omega arith in absurd z
+at-some (suc n) place later h = refl
+
+pub at-none : (n place : ℕ) (later : Refusal) → n ≡ 0 → at n place later ≡ later
+at-none n place later e = rw e
 
 pub budget-bounded : (b : SearchBudget) → budgetRefusal b ≡ 0 → Bounded b
 unfolding budgetRefusal budgetInBounds

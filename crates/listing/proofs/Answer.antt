@@ -24,7 +24,7 @@ use Rattle.search.specs.Budget.{widthOk, budgetOk, budgetInBounds, budgetRefusa
 use Rattle.search.specs.Rooms.{clears, leftIn, slotWidth, framesNeeded, listRoomsRefusal}
 use Rattle.search.specs.Answers.{ListRooms, refusedList, listedIn, listRefusal, listAnswer, listRooms}
 use Rattle.budget.specs.Inner.{Bounded, listRoomsBy}
-use Rattle.budget.proofs.Laws.{budget-bounded, list-rooms-by}
+use Rattle.budget.proofs.Laws.{at-some, at-none, budget-bounded, budget-frontier, list-rooms-by}
 use Rattle.listing.specs.Inner.{FrameRoom, Told, listPanelRefusal, Replied}
 
 -- ---- a refusal's answer
@@ -65,28 +65,7 @@ module _ (p : Panel) (b : SearchBudget) (from : ℕ) (q : Refusal) (rooms : List
         rooms = λ i. record { frames = f i; slot = x i; out = o i };
       }
 
-at-some : (n place : ℕ) (later : Refusal) → 0 < n → at n place later ≡ record { number = n; place = place }
-at-some zero place later h = let z : ⊥ = omega arith in absurd z
-at-some (suc n) place later h = refl
-
-at-none : (n place : ℕ) (later : Refusal) → n ≡ 0 → at n place later ≡ later
-at-none zero place later h = refl
-at-none (suc n) place later h = let z : ⊥ = omega arith in absurd z
-
 -- ---- 11 and 12
-
-budget-frontier : (b : SearchBudget) → budgetRefusal b ≡ 0 → 0 < b .«max_frontier»
-unfolding budgetRefusal budgetOk
-budget-frontier b e = go (ltb 0 (b .«max_work») && ltb 0 (b .«max_evaluations») && ltb 0 (b .«max_frontier») && ltb 0 (b .«max_optima») && widthOk (b .«tie_width»)) refl e
-  where
-    go : (t : Bool) → ltb 0 (b .«max_work») && ltb 0 (b .«max_evaluations») && ltb 0 (b .«max_frontier») && ltb 0 (b .«max_optima») && widthOk (b .«tie_width») ≡ t
-        → unless t 11 (unless (budgetInBounds b) 12 0) ≡ 0 → 0 < b .«max_frontier»
-    go true f z =
-        let q = both (ltb 0 (b .«max_work») && ltb 0 (b .«max_evaluations») && ltb 0 (b .«max_frontier») && ltb 0 (b .«max_optima»)) (widthOk (b .«tie_width»)) f in
-        let r = both (ltb 0 (b .«max_work») && ltb 0 (b .«max_evaluations») && ltb 0 (b .«max_frontier»)) (ltb 0 (b .«max_optima»)) (q .0) in
-        let s = both (ltb 0 (b .«max_work») && ltb 0 (b .«max_evaluations»)) (ltb 0 (b .«max_frontier»)) (r .0) in
-        ltb-true _ _ (s .1)
-    go false f z = let y : ⊥ = omega arith in absurd y
 
 pub panel-bounded : (b : SearchBudget) (n : ℕ) → n ≡ budgetRefusal b → n ≤ 0 → Bounded b
 panel-bounded b n e l = budget-bounded b (omega arith)

@@ -48,7 +48,7 @@ use Rattle.kept.specs.declared.Holding.{Holding}
 use Rattle.kept.specs.Inner.{noHolding, Keeps, Left, Begun}
 use Rattle.kept.proofs.Rooms.{keeps-none, left-on, keeps-count, keeps-discarded, room-left, scores-left, room-begun, scores-begun}
 use Rattle.budget.specs.Inner.{Bounded, roomsBy}
-use Rattle.budget.proofs.Laws.{budget-bounded, budget-frontier, rooms-by, rooms-long}
+use Rattle.budget.proofs.Laws.{at-some, at-none, budget-bounded, budget-frontier, rooms-by, rooms-long}
 use Rattle.enumeration.proofs.Room.{handed-fits}
 use Rattle.searching.specs.declared.Account.{Account}
 use Rattle.searching.specs.declared.Found.{Found}
@@ -238,13 +238,6 @@ module _ {p : Panel} {b : SearchBudget} {v : ℕ} {xs : List Float} {fs ks : Lis
 rooms-same : (p : Panel) (b : SearchBudget) (n : ℕ) (r : Searched) (rooms : Rooms) → 0 < n → clears n ≡ false → roomsAfter p b n r rooms ≡ rooms
 unfolding roomsAfter leftIn
 rooms-same p b n r rooms h c = let d : n ≡ 0 → ⊥ = λ e. absurd (omega arith) in rw (ne-eqb n 0 d, c)
-
-at-some : (n : ℕ) (place : ℕ) (q : Refusal) → 0 < n → at n place q ≡ record { number = n; place = place }
-at-some zero place q h = absurd (omega arith)
-at-some (suc n) place q h = refl
-
-at-none : (n : ℕ) (place : ℕ) (q : Refusal) → n ≡ 0 → at n place q ≡ q
-at-none n place q e = rw e
 
 budget-kept : (b : SearchBudget) → clears (budgetRefusal b) ≡ false
 unfolding budgetRefusal
