@@ -14,7 +14,7 @@ use lib.ListN.{length, drop, take, getD, replicate, length-drop}
 use lib.Seq.{getD-take, getD-drop, length-take-le}
 use borrow.Author.Tests.{le-leb, lt-leb, leb-true, lt-ltb, le-ltb, ltb-true, leb-false, ne-eqb}
 use Rattle.ground.specs.Lists.{each, split, all, any, count, rising, numbersFrom}
-use Rattle.ground.proofs.ListLaws.{both, each-length, each-from, all-at, Rises, rising-rises, Falls, Cut, RisingFrom, rising-start, rising-again, rising-fails, rising-ends, any-at, numbers-at, numbers-length}
+use Rattle.ground.proofs.ListLaws.{both, each-length, each-from, all-at, AllFrom, all-next, Rises, rising-rises, Falls, Cut, RisingFrom, rising-start, rising-again, rising-fails, rising-ends, any-at, numbers-at, numbers-length}
 use Rattle.storage.specs.Records.{portOf, noPort}
 use Rattle.storage.specs.Orders.{placeOf, place, placeLt, placeBefore, samePort}
 use Rattle.storage.specs.Inner.{Offset}
@@ -28,7 +28,7 @@ use Rattle.image.specs.Image.{entries, counts, lanePorts, portsOf, hub, noEntry
 use Rattle.image.specs.Inner.{Framed, Counted, Stands}
 use Rattle.image.proofs.Laws.{row-length, lane-within, rows-length, entries-length, lane-port-is, lane-index}
 use Rattle.panel.specs.Refusals.{lengthOk, letter, soundPlace, soundPort, soundRecord, soundRecords, isTrue, laneRising, lanesRising, listed, ownRow}
-use Rattle.panel.specs.Inner.{Ordered, Accepted}
+use Rattle.panel.specs.Inner.{fourFrom, Ordered, Accepted}
 
 -- ---- 6
 
@@ -43,6 +43,49 @@ module _ (s : List ℕ) (at k : ℕ) where
   -- a letter as the code reads it
   pub letter-read : (i : ℕ) (r : Bool) → i < k → r ≡ letter (getD s (at + i) 0) → r ≡ letter (getD (take k (drop at s)) i 0)
   letter-read i r lt e = e ∙ rw (getD-take k (drop at s) i 0 lt, getD-drop at s i 0)
+
+-- four letters, as they are read
+module _ (w : List ℕ) (i : ℕ) (a : Bool) (ea : a ≡ letter (getD w i 0)) where
+  pub four-not : a ≡ false → false ≡ fourFrom w i
+  four-not e = rw (← ea, e)
+
+  module _ (ta : a ≡ true) (b : Bool) (eb : b ≡ letter (getD w (i + 1) 0)) where
+    pub four-not-2 : b ≡ false → false ≡ fourFrom w i
+    four-not-2 e = rw (← ea, ta, ← eb, e)
+
+    module _ (tb : b ≡ true) (c : Bool) (ec : c ≡ letter (getD w (i + 2) 0)) where
+      pub four-not-3 : c ≡ false → false ≡ fourFrom w i
+      four-not-3 e = rw (← ea, ta, ← eb, tb, ← ec, e)
+
+      pub four-told : c ≡ true → (r : Bool) → r ≡ letter (getD w (i + 3) 0) → r ≡ fourFrom w i
+      four-told tc r er = er ∙ rw (← ea, ta, ← eb, tb, ← ec, tc)
+
+four-joined : (a b c d r : Bool) → (a && (b && (c && (d && r)))) ≡ (a && b && c && d && r)
+four-joined true true true true r = refl
+four-joined true true true false r = refl
+four-joined true true false d r = refl
+four-joined true false c d r = refl
+four-joined false b c d r = refl
+
+module _ (w : List ℕ) (k i : ℕ) (r : Bool) (so : AllFrom letter w k i) (far : i + 4 ≤ k) (test : r ≡ fourFrom w i) (long : length w ≡ k) where
+  next : (j j′ : ℕ) → j + 1 ≡ j′ → j < k → all letter (drop j w) ≡ (letter (getD w j 0) && all letter (drop j′ w))
+  next j j′ e lt =
+      let room : j < length w = omega arith in
+      all-next 0 letter w j room ∙ rw e
+
+  four-step : all letter w ≡ (r && all letter (drop (i + 4) w))
+  four-step =
+      let n0 : all letter (drop i w) ≡ (letter (getD w i 0) && all letter (drop (i + 1) w)) = next i (i + 1) refl (omega arith) in
+      let n1 : all letter (drop (i + 1) w) ≡ (letter (getD w (i + 1) 0) && all letter (drop (i + 2) w)) = next (i + 1) (i + 2) (omega arith) (omega arith) in
+      let n2 : all letter (drop (i + 2) w) ≡ (letter (getD w (i + 2) 0) && all letter (drop (i + 3) w)) = next (i + 2) (i + 3) (omega arith) (omega arith) in
+      let n3 : all letter (drop (i + 3) w) ≡ (letter (getD w (i + 3) 0) && all letter (drop (i + 4) w)) = next (i + 3) (i + 4) (omega arith) (omega arith) in
+      so .todo ∙ rw (n0, n1, n2, n3, test) (four-joined (letter (getD w i 0)) (letter (getD w (i + 1) 0)) (letter (getD w (i + 2) 0)) (letter (getD w (i + 3) 0)) (all letter (drop (i + 4) w)))
+
+  pub four-again : r ≡ true → AllFrom letter w k (i + 4)
+  four-again e = record { within = far; todo = four-step ∙ rw e }
+
+  pub four-fails : r ≡ false → false ≡ all letter w
+  four-fails e = sym (four-step ∙ rw e)
 
 leb-minus : (a k n : ℕ) → k ≤ n → leb a (n - k) ≡ leb (a + k) n
 leb-minus a k n h = go (leb a (n - k)) refl
@@ -182,17 +225,35 @@ module _ (s : List ℕ) (h : Header) (g : Port) (l : Lane) (i source anchor : �
       let at′ : i ≡ count (placeBefore (g .anchor) (g .reverse)) (portsOf h s (l .number)) = at ∙ rw (ea, er) in
       listed-is s h g (l .number) (n ∙ es) (row-rises s h l stands rows) ∙ rw (← at′)
 
-  pub listed-told : (r : Bool) → i < l .count → r ≡ samePort g (getD (portsOf h s (l .number)) i noPort) → r ≡ listed h s g
-  listed-told r lt t =
-      let m = row-length s h l stands in
-      let room : i < length (portsOf h s (l .number)) = omega arith in
-      t ∙ sym (listed-here ∙ rw (lt-ltb i (length (portsOf h s (l .number))) room))
+  pub listed-told : (r : Bool) → r ≡ (ltb i (l .count) && samePort g (getD (portsOf h s (l .number)) i noPort)) → r ≡ listed h s g
+  listed-told r t = t ∙ sym (listed-here ∙ rw (row-length s h l stands))
 
-  pub listed-none : l .count ≤ i → false ≡ listed h s g
-  listed-none le =
-      let m = row-length s h l stands in
-      let none : length (portsOf h s (l .number)) ≤ i = omega arith in
-      sym (listed-here ∙ rw (le-ltb i (length (portsOf h s (l .number))) none))
+any-one : {A : Type 0} (d : A) (f : A → Bool) (l : List A) (i : ℕ) → i < length l → f (getD l i d) ≡ true → true ≡ any f l
+unfolding any
+any-one d f [] i lt e = absurd (omega arith)
+any-one d f (a ∷ l) zero lt e = rw e
+any-one d f (a ∷ l) (suc i) lt e = sym (rw (← (any-one d f l i (omega arith) e)) (or-true (f a)))
+  where
+    or-true : (b : Bool) → (b || true) ≡ true
+    or-true true = refl
+    or-true false = refl
+
+-- one that is found at once
+pub listed-near : (s : List ℕ) (h : Header) (g : Port) (l : Lane) (i source : ℕ) (r : Bool) → Stands s h l → l .number ≡ source → source ≡ g .source
+    → r ≡ (ltb i (l .count) && samePort g (getD (portsOf h s (l .number)) i noPort)) → r ≡ true → true ≡ listed h s g
+unfolding listed
+listed-near s h g l i source r stands n es t e =
+    let (inside, same) = both (ltb i (l .count)) (samePort g (getD (portsOf h s (l .number)) i noPort)) (sym t ∙ e) in
+    let b = ltb-true i (l .count) inside in
+    let m = row-length s h l stands in
+    let room : i < length (portsOf h s (l .number)) = omega arith in
+    any-one noPort (samePort g) (portsOf h s (l .number)) i room same ∙ ap (λ (x : ℕ). any (samePort g) (portsOf h s x)) (n ∙ es)
+
+pub here-told : (i n : ℕ) (r b : Bool) → i < n → r ≡ b → r ≡ (ltb i n && b)
+here-told i n r b lt e = e ∙ rw (lt-ltb i n lt)
+
+pub here-none : (i n : ℕ) (b : Bool) → n ≤ i → false ≡ (ltb i n && b)
+here-none i n b le = rw (le-ltb i n le)
 
 pub hub-named : (s : List ℕ) (h : Header) (i : ℕ) (g : Port) → Ordered s h → i < h .ports → g ≡ getD (hub h s) i noPort → g .source < h .lanes
 unfolding hub soundRecords soundRecord soundPlace

@@ -1,18 +1,18 @@
 // The panel check: refusals 4 and 6 to 8.
 ghost use mathlib.Core.Path.{_≡_};
 ghost use Prim.Native.Nat.{ℕ, _+_, _≤_, _<_};
-ghost use mathlib.Core.Bool.{Bool, true};
-ghost use lib.Dec.{eqb};
+ghost use mathlib.Core.Bool.{Bool, true, _&&_};
+ghost use lib.Dec.{ltb, eqb};
 ghost use lib.ListN.{length, drop, take, getD};
 ghost use Rattle.ground.specs.Lists.{sum, each, all, count, numbersFrom};
 ghost use Rattle.storage.specs.Records.{portOf, noPort, recordSize};
-ghost use Rattle.storage.specs.Orders.{placeBefore};
+ghost use Rattle.storage.specs.Orders.{placeBefore, samePort};
 ghost use Rattle.storage.specs.Inner.{Records};
 ghost use Rattle.image.specs.Sizes.{mostPorts};
 ghost use Rattle.image.specs.Image.{entries, counts, portsOf, hub, noEntry};
 ghost use Rattle.image.specs.Inner.{Framed, Counted, Started, Stands};
 ghost use Rattle.panel.specs.Refusals.{lengthOk, sound4, letter, soundPlace, soundRecord, soundRecords, from, ownRow, ownRows, sound6, laneRising, lanesRising, hubRising, sound7, listed, sound8};
-ghost use Rattle.panel.specs.Inner.{Ordered};
+ghost use Rattle.panel.specs.Inner.{fourFrom, Ordered};
 
 // ---- 4
 
@@ -87,11 +87,39 @@ fn is_letter_at(image: &[u8], at: usize, k: usize, i: usize) -> bool
     is_letter(image[at + i])
 }
 
+// Letters i to i + 3.
+fn are_four(image: &[u8], at: usize, k: usize, i: usize) -> bool
+    requires { ⌜ (at + k ≤ length (now image)) × (i + 4 ≤ k) ⌝ }
+    ensures { λ r. ⌜ r ≡ fourFrom (take k (drop at (now (image .entry)))) i ⌝ }
+{
+    if is_letter_at(image, at, k, i) {
+        if is_letter_at(image, at, k, i + 1) {
+            if is_letter_at(image, at, k, i + 2) {
+                is_letter_at(image, at, k, i + 3)
+            } else {
+                false
+            }
+        } else {
+            false
+        }
+    } else {
+        false
+    }
+}
+
+// Four letters at a time, then one.
 fn are_letters(image: &[u8], at: usize, k: usize) -> bool
     requires { ⌜ (at + k ≤ length (now image)) ⌝ }
     ensures { λ r. ⌜ r ≡ all letter (take k (drop at (now (image .entry)))) ⌝ }
 {
     let mut i = 0;
+    while 4 <= k - i {
+        if are_four(image, at, k, i) {
+            i += 4;
+        } else {
+            return false;
+        }
+    }
     while i < k {
         if is_letter_at(image, at, k, i) {
             i += 1;
@@ -372,7 +400,19 @@ pub fn places_before(
     lo
 }
 
-// Whether the global record at a byte offset is in its lane's list.
+// Whether a lane's list has a record i and it is the one at a byte offset.
+fn is_lane_port_here(image: &[u8], h: image::Header, l: image::Lane, i: usize, at: usize) -> bool
+    requires { ⌜ Stands (now image) h l × (at + recordSize (h .k) ≤ length (now image)) ⌝ }
+    ensures { λ r. ⌜ r ≡ (ltb i (l .count) && samePort (portOf (h .k) (drop at (now (image .entry)))) (getD (portsOf h (now (image .entry)) (l .number)) i noPort)) ⌝ }
+{
+    if i < l.count {
+        image::is_lane_port(image, h, l, i, at)
+    } else {
+        false
+    }
+}
+
+// Whether the global record at a byte offset is in its lane's list: where it would stand evenly, or else where a search finds its place.
 fn is_listed(
     image: &[u8],
     h: image::Header,
@@ -387,12 +427,12 @@ fn is_listed(
     let anchor = storage::anchor_at(image, at, k);
     let reverse = storage::reverse_at(image, at, k);
     let l = image::lane_of(image, h, starts, source as usize);
-    let i = places_before(image, h, l, anchor, reverse);
-    if i < l.count {
-        image::is_lane_port(image, h, l, i, at)
-    } else {
-        false
+    let near = evenly(l, anchor);
+    if is_lane_port_here(image, h, l, near, at) {
+        return true;
     }
+    let i = places_before(image, h, l, anchor, reverse);
+    is_lane_port_here(image, h, l, i, at)
 }
 
 fn is_listed_at(
