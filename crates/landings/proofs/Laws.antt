@@ -76,7 +76,7 @@ module _ (a b : Landing) where
 
 -- ---- the first port past a cut
 
-anchors : (l : List Port) → laneRising l ≡ true → (p q : ℕ) → p ≤ q → q < length l → getD l p noPort .anchor ≤ getD l q noPort .anchor
+pub anchors : (l : List Port) → laneRising l ≡ true → (p q : ℕ) → p ≤ q → q < length l → getD l p noPort .anchor ≤ getD l q noPort .anchor
 unfolding placeOf
 anchors l e p q le m = go (eq-or-lt-of-le le)
   where
