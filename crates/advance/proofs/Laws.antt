@@ -177,7 +177,7 @@ module _ (s : List ℕ) (h : Header) (l : Lane) (f : Stored) (acc : Accepted s h
   len-here : laneAt (panelOf s) (f .source) .len ≡ l .len
   len-here = panel-entry s h (f .source) (acc .counted .framed) .0 ∙ ap (λ (n : ℕ). getD (entries h s) n noEntry .len) (sym here) ∙ sym (st .len)
 
-  count-here : getD (counts h s) (f .source) 0 ≡ l .count
+  pub count-here : getD (counts h s) (f .source) 0 ≡ l .count
   count-here = ap (λ (n : ℕ). getD (counts h s) n 0) (sym here) ∙ sym (st .count)
 
   ports-here : laneAt (panelOf s) (f .source) .ports ≡ portsOf h s (l .number)
