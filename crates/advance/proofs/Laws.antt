@@ -734,24 +734,44 @@ past-alike s h l f r p = go (p .how)
 
 -- the unit that it is, where no hub is open
 module _ (s : List ℕ) (h : Header) (family : Family) (l : Lane) (xs : List ℕ) (top : ℕ) (f : Stored) (on : On s h family l xs top f) (term : f .terminal ≡ false) (none : f .«hub_end» ≡ 0) (some : 0 < f .next)
-    (few : f .next ≤ l .count) (b : Blocked s h l (pathAt xs top) f) where
-  pub past-turned : (r : Stored) → Past s h l f r → Turned s h family (pathAt xs top) f (record { action = Pass; frame = r; taken = 0; clear = false })
+    (few : f .next ≤ l .count) (g : Stored) (p : Past s h l f g) where
+  past-told : (w : Bool)
+      → (sameTurn (getD (portsOf h s (l .number)) (f .next - 1) noPort .reverse) (f .reverse) ≡ true → w ≡ clear (pieceTo (bare f) (cutOf (getD (portsOf h s (l .number)) (f .next - 1) noPort) (h .k))) (pieces xs top))
+      → Turned s h family (pathAt xs top) f (record { action = Pass; frame = g; taken = 0; clear = w })
   unfolding landingOf
-  past-turned r p = go (p .how)
+  past-told w ew = go (p .how)
     where
-      landing-turn : sameTurn (landingOf (h .k) (getD (portsOf h s (l .number)) (f .next - 1) noPort) .reverse) (f .reverse) ≡ sameTurn (getD (portsOf h s (l .number)) (f .next - 1) noPort .reverse) (f .reverse)
-      landing-turn = refl
-
-      cut-told : false ≡ clear (pieceTo (bare f) (cutOf (getD (portsOf h s (l .number)) (f .next - 1) noPort) (h .k))) (flat (pathAt xs top .routes) ++ pathAt xs top .route) → false ≡ clear (pieceTo (bare f) (landingOf (h .k) (getD (portsOf h s (l .number)) (f .next - 1) noPort) .cut)) (pieces xs top)
-      cut-told e = rw (← path-pieces xs top) e
-
-      go : ((sameTurn (getD (portsOf h s (l .number)) (f .next - 1) noPort .reverse) (f .reverse) ≡ true) × ((m : Members) × ((m ≡ bucketOf (getD (portsOf h s (l .number)) (f .next - 1) noPort .word) (panelOf s .hub)) × (r ≡ movedTo f (onward (f .reverse) (f .next)) (m .lo) (m .hi)))))
-          ⊎ ((sameTurn (getD (portsOf h s (l .number)) (f .next - 1) noPort .reverse) (f .reverse) ≡ false) × (r ≡ movedTo f (onward (f .reverse) (f .next)) 0 0))
-          → Turned s h family (pathAt xs top) f (record { action = Pass; frame = r; taken = 0; clear = false })
+      go : ((sameTurn (getD (portsOf h s (l .number)) (f .next - 1) noPort .reverse) (f .reverse) ≡ true) × ((m : Members) × ((m ≡ bucketOf (getD (portsOf h s (l .number)) (f .next - 1) noPort .word) (panelOf s .hub)) × (g ≡ movedTo f (onward (f .reverse) (f .next)) (m .lo) (m .hi)))))
+          ⊎ ((sameTurn (getD (portsOf h s (l .number)) (f .next - 1) noPort .reverse) (f .reverse) ≡ false) × (g ≡ movedTo f (onward (f .reverse) (f .next)) 0 0))
+          → Turned s h family (pathAt xs top) f (record { action = Pass; frame = g; taken = 0; clear = w })
       go (inl q) =
-          port-opens s h family l xs top f on term none some few (landingOf (h .k) (getD (portsOf h s (l .number)) (f .next - 1) noPort)) (onward (f .reverse) (f .next)) _ r refl refl refl (q .1 .0)
-          (pieceTo (bare f) (landingOf (h .k) (getD (portsOf h s (l .number)) (f .next - 1) noPort) .cut)) false (landing-turn ∙ q .0) (q .1 .1 .0) refl
-          (cut-told (sym (b .told (f .next - 1) (omega arith) (λ e. omega arith) (λ e. omega arith) (q .0)))) (q .1 .1 .1)
+          port-opens s h family l xs top f on term none some few (landingOf (h .k) (getD (portsOf h s (l .number)) (f .next - 1) noPort)) (onward (f .reverse) (f .next)) _ g refl refl refl (q .1 .0)
+          (pieceTo (bare f) (cutOf (getD (portsOf h s (l .number)) (f .next - 1) noPort) (h .k))) w (q .0) (q .1 .1 .0) refl (ew (q .0)) (q .1 .1 .1)
       go (inr q) =
-          port-other s h family l xs top f on term none some few (landingOf (h .k) (getD (portsOf h s (l .number)) (f .next - 1) noPort)) (onward (f .reverse) (f .next)) _ r refl refl refl false
-          (landing-turn ∙ q .0) (q .1)
+          port-other s h family l xs top f on term none some few (landingOf (h .k) (getD (portsOf h s (l .number)) (f .next - 1) noPort)) (onward (f .reverse) (f .next)) _ g refl refl refl w (q .0) (q .1)
+
+  -- the ports ahead are blocked
+  pub past-turned : Blocked s h l (pathAt xs top) f → Turned s h family (pathAt xs top) f (record { action = Pass; frame = g; taken = 0; clear = false })
+  past-turned b = past-told false (λ e. rw (← path-pieces xs top) (sym (b .told (f .next - 1) (omega arith) (λ z. omega arith) (λ z. omega arith) e)))
+
+  -- no bucket opens
+  pub past-shut : g .«hub_end» ≡ 0 → Turned s h family (pathAt xs top) f (record { action = Pass; frame = g; taken = 0; clear = true })
+  past-shut z =
+      let t = past-told _ (λ e. refl) in
+      record {
+        act = t .act;
+        taken = t .taken;
+        alike = t .alike;
+        sound = t .sound;
+        child = t .child;
+        slots = t .slots;
+        flagged = shut (panelOf s) (frameWith (pathAt xs top) g) true z;
+        kept = pass-not-down true;
+        left = pass-not-left true;
+      }
+
+  -- one does: the piece up to it is tested
+  pub past-tested : (i : ℕ) (q : Landing) (t : Segment) (w : Bool) → i ≡ f .next - 1 → q ≡ landingOf (h .k) (getD (portsOf h s (l .number)) i noPort) → t ≡ pieceTo (bare f) (q .cut) → w ≡ clear t (pieces xs top)
+      → Turned s h family (pathAt xs top) f (record { action = Pass; frame = g; taken = 0; clear = w })
+  unfolding landingOf
+  past-tested i q t w ei eq et ew = past-told w (λ e. ew ∙ rw (et, eq, ei))

@@ -251,7 +251,31 @@ fn go_onward(f: Stored) -> u64
     if f.reverse { f.next - 1 } else { f.next + 1 }
 }
 
-// A port of the frame's orientation opens its bucket, another is passed over.
+// The frame past its next port: one of the frame's orientation opens its bucket, another is passed over. A hub that was open is closed by it.
+pub fn past_next(
+    image: &[u8],
+    h: image::Header,
+    memo: &mut [usize; landings::MEMO],
+    l: image::Lane,
+    f: Stored,
+) -> Stored
+    requires { ⌜ Accepted (now image) h × Stands (now image) h l × (0 < f .next) × (f .next ≤ l .count) × Known (now image) h (now memo) ⌝ }
+    ensures { λ r. ⌜ Past (now (image .entry)) h l f r ⌝ }
+    ensures { λ r. ⌜ Known (now (image .entry)) h (now (memo .exit)) ⌝ }
+{
+    let next = f.next as usize;
+    let i = next - 1;
+    let q = landings::lane_landing(image, h, l, i);
+    let on = go_onward(f);
+    if landings::is_same_turn(q.reverse, f.reverse) {
+        let m = landings::port_bucket(image, h, memo, l, i);
+        moved(f, on, m.lo as u64, m.hi as u64)
+    } else {
+        moved(f, on, 0, 0)
+    }
+}
+
+// The next port is passed; where its bucket opens, the piece up to it is held against the path.
 fn pass_port(
     image: &[u8],
     h: image::Header,
@@ -266,28 +290,23 @@ fn pass_port(
     ensures { λ r. ⌜ Turned (now (image .entry)) h family (pathAt (now (frames .entry)) top) f r ⌝ }
     ensures { λ r. ⌜ Known (now (image .entry)) h (now (memo .exit)) ⌝ }
 {
-    let next = f.next as usize;
-    let i = next - 1;
-    let q = landings::lane_landing(image, h, l, i);
-    let on = go_onward(f);
-    if landings::is_same_turn(q.reverse, f.reverse) {
-        let m = landings::port_bucket(image, h, memo, l, i);
-        let clear = frames::is_clear(frames, top, piece_to(f, q.cut));
-        let frame = moved(f, on, m.lo as u64, m.hi as u64);
-        Turn {
-            action: Action::Pass,
-            frame,
-            taken: 0,
-            clear,
-        }
-    } else {
-        let frame = moved(f, on, 0, 0);
-        Turn {
+    let frame = past_next(image, h, memo, l, f);
+    if frame.hub_end == 0 {
+        return Turn {
             action: Action::Pass,
             frame,
             taken: 0,
             clear: true,
-        }
+        };
+    }
+    let next = f.next as usize;
+    let q = landings::lane_landing(image, h, l, next - 1);
+    let clear = frames::is_clear(frames, top, piece_to(f, q.cut));
+    Turn {
+        action: Action::Pass,
+        frame,
+        taken: 0,
+        clear,
     }
 }
 
@@ -392,29 +411,5 @@ pub fn leads_on(image: &[u8], h: image::Header, l: image::Lane, f: Stored) -> bo
         }
     } else {
         false
-    }
-}
-
-// The frame past its next port, and past closing an open hub before.
-pub fn pass_blocked(
-    image: &[u8],
-    h: image::Header,
-    memo: &mut [usize; landings::MEMO],
-    l: image::Lane,
-    f: Stored,
-) -> Stored
-    requires { ⌜ Accepted (now image) h × Stands (now image) h l × (0 < f .next) × (f .next ≤ l .count) × Known (now image) h (now memo) ⌝ }
-    ensures { λ r. ⌜ Past (now (image .entry)) h l f r ⌝ }
-    ensures { λ r. ⌜ Known (now (image .entry)) h (now (memo .exit)) ⌝ }
-{
-    let next = f.next as usize;
-    let i = next - 1;
-    let q = landings::lane_landing(image, h, l, i);
-    let on = go_onward(f);
-    if landings::is_same_turn(q.reverse, f.reverse) {
-        let m = landings::port_bucket(image, h, memo, l, i);
-        moved(f, on, m.lo as u64, m.hi as u64)
-    } else {
-        moved(f, on, 0, 0)
     }
 }

@@ -594,7 +594,7 @@ module _ (s : List ℕ) (h : Header) (b : SearchBudget) (xs : List ℕ) (t₀ : 
     one-past : (g : Stored) → Past s h l f g → f .«hub_end» ≡ 0 → 0 < f .next → f .next ≤ l .count → t .work + 2 ≤ b .«max_work» → Striding s h b xs t₀ d l g (workedOf t 1)
     one-past g p none some few work =
         let alike = past-alike s h l f g p in
-        pass-once g (past-turned s h (familyAt s h t₀) l (put xs (d - 1) f) (d - 1) f top-on (k .begun) none some few (rw here-path (k .blocked)) g p) work (alike .0) (alike .1)
+        pass-once g (past-turned s h (familyAt s h t₀) l (put xs (d - 1) f) (d - 1) f top-on (k .begun) none some few g p (rw here-path (k .blocked))) work (alike .0) (alike .1)
         (blocked-past s h l (pathAt xs (d - 1)) f acc st (k .here) g p (k .blocked))
 
     -- a used-up hub is closed

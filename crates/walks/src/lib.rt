@@ -188,7 +188,7 @@ fn pass_ports(
         t = took(t, m);
         if goes_past(b, l, f, t) {
             let n = to_close(f);
-            f = advance::pass_blocked(image, h, memo, l, f);
+            f = advance::past_next(image, h, memo, l, f);
             t = worked(t, n + 1);
         } else {
             break;

@@ -1,10 +1,10 @@
 use borrow.Author.Needs.{needs}
 use Rattle.advance.proofs.Laws.{next-small, past-opens, past-other}
-use Rattle.advance.proofs.pass_blocked.Statement.{statement}
-use Rattle.advance.proofs.pass_blocked.Tie as tie
+use Rattle.advance.proofs.past_next.Statement.{statement}
+use Rattle.advance.proofs.past_next.Tie as tie
 
-pub pass-blocked-spec : {M : Type 1} → statement M
-pass-blocked-spec =
+pub past-next-spec : {M : Type 1} → statement M
+past-next-spec =
     tie.close
     (tie.spec
     (λ c. search needs)  -- sub-i
