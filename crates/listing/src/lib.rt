@@ -255,7 +255,19 @@ fn list_families(
     }
     walks::put_root(image, h, starts, frames, 0, 0);
     let root = Standing { depth: 1, ..at };
-    run(image, h, starts, memo, b, v, frames, slot, out, root, listing)
+    run(
+        image,
+        h,
+        starts,
+        memo,
+        b,
+        v,
+        frames,
+        slot,
+        out,
+        root,
+        listing,
+    )
 }
 
 // ---- the answer

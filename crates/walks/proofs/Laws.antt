@@ -554,6 +554,7 @@ module _ (s : List ℕ) (h : Header) (b : SearchBudget) (xs : List ℕ) (t₀ : 
           some = k .some;
           room = k .room;
         })
+
     top-sound : Sound s h (familyAt s h t₀ .count) f
     top-sound = rw top-is at (k .going .held .sound (d - 1) (let o = k .some in omega arith))
 

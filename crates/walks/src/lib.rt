@@ -122,7 +122,11 @@ fn worked(t: Tally, n: u64) -> Tally
 fn members_left(f: Stored) -> u64
     ensures { λ r. ⌜ r ≡ f .«hub_end» - f .«hub_next» ⌝ }
 {
-    if f.hub_next < f.hub_end { f.hub_end - f.hub_next } else { 0 }
+    if f.hub_next < f.hub_end {
+        f.hub_end - f.hub_next
+    } else {
+        0
+    }
 }
 
 // The open hub with m members fewer.
@@ -285,16 +289,7 @@ pub fn go_on(
                 break 'families Halt::Stopped(Stop::Evaluation);
             }
             t = pass_over(image, h, starts, memo, b, frames, depth, clear, t);
-            let turn = advance::advance(
-                image,
-                h,
-                starts,
-                memo,
-                family,
-                frames,
-                depth - 1,
-                clear,
-            );
+            let turn = advance::advance(image, h, starts, memo, family, frames, depth - 1, clear);
             t = spent(b, t, turn.taken);
             clear = turn.clear;
             let action = turn.action;
