@@ -6,6 +6,7 @@ use native.Mathlib.Omega.{arith}
 use mathlib.Core.Path.{_≡_, refl, sym, ap, _∙_}
 use mathlib.Core.Bool.{Bool, true, false, not, _&&_, _||_}
 use mathlib.Core.List.{List, [], _∷_, _++_}
+use mathlib.Core.Logic.{_⊎_, inl, inr}
 use mir.Val.{Fits}
 use mir.Syntax.{w64}
 use borrow.Author.Needs.{fits-under}
@@ -27,10 +28,10 @@ use Rattle.image.specs.Panel.{Panel, panelOf, laneAt, pathsAt}
 use Rattle.image.proofs.Laws.{panel-ports, panel-hub, panel-k, panel-families, panel-entry, row-length, hub-length, lane-ports-length, paths-length, path-counts-length, family-index, family-path-is, family-length, lane-within}
 use Rattle.families.specs.Families.{countOk, sound5, sound5a, sound5b, names, noTwice}
 use Rattle.panel.specs.Inner.{Accepted}
-use Rattle.panel.specs.Refusals.{soundPort, soundPlace}
-use Rattle.panel.proofs.Laws.{record-sound}
+use Rattle.panel.specs.Refusals.{soundPort, soundPlace, laneRising}
+use Rattle.panel.proofs.Laws.{record-sound, row-rises}
 use Rattle.evaluate.specs.declared.Segment.{Segment}
-use Rattle.evaluate.specs.Segments.{clear}
+use Rattle.evaluate.specs.Segments.{clear, flat, overlap}
 use Rattle.search.specs.Walk.{Place, Frame, Doing, pass, down, give, Act, leave, doing, firstPort, enter, begins, pieceTo, onPath, closes, closed, terminalTask, memberTask, samePlace, reach, switched, outgoing, behind, onward, hubOpen, nextPort, spent, opening, portUnit, hubUnit, unitOf, takesMember}
 use Rattle.search.specs.Rooms.{frameWidth}
 use Rattle.frames.specs.declared.Stored.{Stored}
@@ -38,10 +39,11 @@ use Rattle.frames.specs.Inner.{Path, noPath, pieceFrom, longer, pathTo, pathAt,
 use Rattle.frames.proofs.Laws.{path-pieces}
 use Rattle.landings.specs.declared.Landing.{Landing}
 use Rattle.landings.specs.Inner.{landingOf, sameLanding, reached}
+use Rattle.landings.proofs.Laws.{anchors}
 use Rattle.advance.specs.declared.Action.{Action}
 use Rattle.advance.specs.declared.Action.the-variants.{Leave, Pass, Down, Give}
 use Rattle.advance.specs.declared.Turn.{Turn}
-use Rattle.advance.specs.Inner.{bare, movedTo, childOf, entered, leaving, Sound, Child, Flagged, taskOf, actOf, closesBy, stays, closingTask, Ends, Meets, On, Turned, Ready, Moved}
+use Rattle.advance.specs.Inner.{bare, movedTo, childOf, entered, leaving, Sound, Child, Flagged, taskOf, actOf, closesBy, stays, closingTask, Ends, Meets, On, Turned, Ready, Moved, leadsOn, Blocked, Past}
 
 -- ---- pieces
 
@@ -175,7 +177,7 @@ module _ (s : List ℕ) (h : Header) (l : Lane) (f : Stored) (acc : Accepted s h
   len-here : laneAt (panelOf s) (f .source) .len ≡ l .len
   len-here = panel-entry s h (f .source) (acc .counted .framed) .0 ∙ ap (λ (n : ℕ). getD (entries h s) n noEntry .len) (sym here) ∙ sym (st .len)
 
-  count-here : getD (counts h s) (f .source) 0 ≡ l .count
+  pub count-here : getD (counts h s) (f .source) 0 ≡ l .count
   count-here = ap (λ (n : ℕ). getD (counts h s) n 0) (sym here) ∙ sym (st .count)
 
   ports-here : laneAt (panelOf s) (f .source) .ports ≡ portsOf h s (l .number)
@@ -280,6 +282,10 @@ hub-lane s h i acc lt =
     let ok = record-sound s h (h .«hub_at») i (acc .hubRecords) lt in
     ltb-true (p .source) (h .lanes) (both (ltb (p .source) (h .lanes)) (leb (p .anchor + h .k) (getD (entries h s) (p .source) noEntry .len)) ok .0)
 
+and-false : (b : Bool) → b && false ≡ false
+and-false true = refl
+and-false false = refl
+
 or-true : (b : Bool) → b || true ≡ true
 or-true true = refl
 or-true false = refl
@@ -355,9 +361,9 @@ module _ (s : List ℕ) (h : Header) (family : Family) (l : Lane) (xs : List ℕ
         left = stays-left r flag (m .going);
       }
 
-  pub hub-close : f .«hub_end» ≤ f .«hub_next» → g ≡ movedTo f (f .next) 0 0 → Turned s h family (pathAt xs top) f (record { action = Pass; frame = g; taken = 0; clear = true })
+  pub hub-close : (w : Bool) → f .«hub_end» ≤ f .«hub_next» → g ≡ movedTo f (f .next) 0 0 → Turned s h family (pathAt xs top) f (record { action = Pass; frame = g; taken = 0; clear = w })
   unfolding unitOf hubUnit
-  hub-close le eg =
+  hub-close w le eg =
       let few = on .sound .ports in
       let here = count-here s h l f (on .accepted) (on .stands) (on .here) in
       record {
@@ -367,9 +373,9 @@ module _ (s : List ℕ) (h : Header) (family : Family) (l : Lane) (xs : List ℕ
         sound = sound-of s h l f (on .accepted) (on .stands) (on .here) (family .count) g (f .next) 0 0 (on .sound) eg (omega arith) (omega arith) (λ z. absurd (omega arith)) (λ z. absurd (omega arith));
         child = no-child-pass s h (family .count);
         slots = no-slots-pass f;
-        flagged = rw eg (shut (panelOf s) (frameWith (pathAt xs top) (movedTo f (f .next) 0 0)) true refl);
-        kept = λ c e. refl;
-        left = λ e. refl;
+        flagged = rw eg (shut (panelOf s) (frameWith (pathAt xs top) (movedTo f (f .next) 0 0)) w refl);
+        kept = pass-not-down w;
+        left = pass-not-left w;
       }
 
 -- ---- the next port
@@ -448,9 +454,9 @@ module _ (s : List ℕ) (h : Header) (family : Family) (l : Lane) (xs : List ℕ
         sound-of s h l f (on .accepted) (on .stands) (on .here) (family .count) g next lo hi (on .sound) eg (omega arith) most (λ z. rw (en, onward-behind (f .reverse) (f .next) some) (omega arith))
         (λ z e. rw en (onward-second (f .reverse) (f .next) some e))
 
-    pub port-other : b ≡ false → g ≡ movedTo f next 0 0 → Turned s h family (pathAt xs top) f (record { action = Pass; frame = g; taken = 0; clear = true })
+    pub port-other : (w : Bool) → b ≡ false → g ≡ movedTo f next 0 0 → Turned s h family (pathAt xs top) f (record { action = Pass; frame = g; taken = 0; clear = w })
     unfolding unitOf portUnit
-    port-other not-so eg =
+    port-other w not-so eg =
         record {
           act = rw (eg, en, term, is-shut, unspent, turn-told, not-so);
           taken = rw (term, is-shut);
@@ -458,9 +464,9 @@ module _ (s : List ℕ) (h : Header) (family : Family) (l : Lane) (xs : List ℕ
           sound = next-sound 0 0 eg (omega arith);
           child = no-child-pass s h (family .count);
           slots = no-slots-pass f;
-          flagged = rw eg (shut (panelOf s) (frameWith (pathAt xs top) (movedTo f next 0 0)) true refl);
-          kept = λ c e. refl;
-          left = λ e. refl;
+          flagged = rw eg (shut (panelOf s) (frameWith (pathAt xs top) (movedTo f next 0 0)) w refl);
+          kept = pass-not-down w;
+          left = pass-not-left w;
         }
 
     most-members : (m : Members) → m ≡ bucketOf (getD (portsOf h s (l .number)) (f .next - 1) noPort .word) (panelOf s .hub) → m .hi ≤ h .ports
@@ -597,3 +603,175 @@ two-below f h e = h e
 
 pub next-few : (s : List ℕ) (h : Header) (family : Family) (l : Lane) (xs : List ℕ) (top : ℕ) (f : Stored) → On s h family l xs top f → f .next ≤ l .count → f .next ≤ 4194304
 next-few s h family l xs top f on le = let w = lane-within s h l (on .stands) in omega (arith, on .stands .counted .framed .fewPorts)
+
+-- ---- a frame whose ports ahead are all blocked
+
+module _ (k : ℕ) (f : Stored) (ps : List Port) (i j : ℕ) (out : Landing) (b : Bool) (eo : out ≡ landingOf k (getD ps i noPort)) (ei : i ≡ j) (eb : b ≡ sameTurn (out .reverse) (f .reverse)) where
+  same-told : sameTurn (getD ps j noPort .reverse) (f .reverse) ≡ b
+  unfolding landingOf
+  same-told = sym (eb ∙ rw (eo, ei))
+
+  pub leads-reverse : b ≡ true → f .reverse ≡ true → leb (out .cut) (f .cut) ≡ leadsOn k f (getD ps j noPort)
+  unfolding landingOf
+  leads-reverse it e = rw (same-told, it, e, eo, ei)
+
+  pub leads-forward : b ≡ true → f .reverse ≡ false → leb (f .cut) (out .cut) ≡ leadsOn k f (getD ps j noPort)
+  unfolding landingOf
+  leads-forward it e = rw (same-told, it, e, eo, ei)
+
+  pub leads-not : b ≡ false → false ≡ leadsOn k f (getD ps j noPort)
+  leads-not not-so = rw (same-told, not-so)
+
+module _ (s : List ℕ) (h : Header) (l : Lane) (f g : Stored) (q : Landing) (next : ℕ) (b : Bool) (eq : q ≡ landingOf (h .k) (getD (portsOf h s (l .number)) (f .next - 1) noPort)) (en : next ≡ onward (f .reverse) (f .next))
+    (eb : b ≡ sameTurn (q .reverse) (f .reverse)) where
+  pub past-opens : (m : Members) → b ≡ true → m ≡ bucketOf (getD (portsOf h s (l .number)) (f .next - 1) noPort .word) (panelOf s .hub) → g ≡ movedTo f next (m .lo) (m .hi) → Past s h l f g
+  unfolding landingOf
+  past-opens m it em eg = record { how = inl (sym (eb ∙ rw eq) ∙ it, (m, (em, rw (← en) eg))) }
+
+  pub past-other : b ≡ false → g ≡ movedTo f next 0 0 → Past s h l f g
+  unfolding landingOf
+  past-other not-so eg = record { how = inr (sym (eb ∙ rw eq) ∙ not-so, rw (← en) eg) }
+
+pub next-small : (s : List ℕ) (h : Header) (l : Lane) (n : ℕ) → Stands s h l → n ≤ l .count → n ≤ 4194304
+next-small s h l n st le = let w = lane-within s h l st in omega (arith, st .counted .framed .fewPorts)
+
+-- a longer piece shares a base with all that a shorter one does
+module _ (s t : Segment) (lane : s .source ≡ t .source) (before : t .start ≤ s .start) (behind : s .end ≤ t .end) where
+  overlap-more : (u : Segment) → overlap s u ≡ true → overlap t u ≡ true
+  overlap-more u e =
+      let one = both (eqb (s .source) (u .source) && ltb (s .start) (u .end)) (ltb (u .start) (s .end)) e in
+      let two = both (eqb (s .source) (u .source)) (ltb (s .start) (u .end)) (one .0) in
+      let a = ltb-true (s .start) (u .end) (two .1) in
+      let b = ltb-true (u .start) (s .end) (one .1) in
+      rw (← lane, two .0, lt-ltb (t .start) (u .end) (omega (arith, before)), lt-ltb (u .start) (t .end) (omega (arith, behind)))
+
+  clear-less : (l : List Segment) → clear s l ≡ false → clear t l ≡ false
+  unfolding all
+  clear-less [] e = e
+  clear-less (u ∷ l) e = go (overlap s u) refl (λ q. clear-less l q)
+    where
+      go : (b : Bool) → overlap s u ≡ b → (clear s l ≡ false → clear t l ≡ false) → not (overlap t u) && all (λ v. not (overlap t v)) l ≡ false
+      go true q rest = rw (overlap-more u q)
+      go false q rest = rw (rest (rw q at e)) (and-false (not (overlap t u)))
+
+pick-first : (r x y : Bool) → pick r x y ≡ true → r ≡ true → x ≡ true
+pick-first r x y e t = rw t at e
+
+pick-second : (r x y : Bool) → pick r x y ≡ true → r ≡ false → y ≡ true
+pick-second r x y e t = rw t at e
+
+turn-is : (x y : Bool) → sameTurn x y ≡ true → x ≡ y
+turn-is true true e = refl
+turn-is true false e = sym e
+turn-is false true e = e
+turn-is false false e = refl
+
+module _ (s : List ℕ) (h : Header) (l : Lane) (a : Path) (f : Stored) (acc : Accepted s h) (st : Stands s h l) (here : l .number ≡ f .source) where
+  abbrev port : ℕ → Port
+  port i = getD (portsOf h s (l .number)) i noPort
+
+  abbrev out : ℕ
+  out = behind (f .reverse) (f .next)
+
+  -- where the piece to the open hub's port is not clear, and that port leads on, all ports ahead are blocked
+  module _ (low : behind (f .reverse) (f .next) < l .count) (some : f .«hub_end» ≡ 0 → ⊥) (off : Flagged (panelOf s) (frameWith a f) false) (on : leadsOn (h .k) f (getD (portsOf h s (l .number)) (behind (f .reverse) (f .next)) noPort) ≡ true) where
+    not-clear : clear (pieceTo (bare f) (cutOf (port out) (h .k))) (flat (a .routes) ++ a .route) ≡ false
+    not-clear = sym (rw (ports-here s h l f acc st here, panel-k s h (acc .counted .framed)) at (off .told (lt-ltb 0 (f .«hub_end») (omega arith))))
+
+    rising : laneRising (portsOf h s (l .number)) ≡ true
+    rising = row-rises s h l st (acc .rows)
+
+    long : length (portsOf h s (l .number)) ≡ l .count
+    long = row-length s h l st
+
+    turn-out : port out .reverse ≡ f .reverse
+    turn-out = turn-is (port out .reverse) (f .reverse) (both (sameTurn (port out .reverse) (f .reverse)) (pick (f .reverse) (leb (cutOf (port out) (h .k)) (f .cut)) (leb (f .cut) (cutOf (port out) (h .k)))) on .0)
+
+    beyond : pick (f .reverse) (leb (cutOf (port out) (h .k)) (f .cut)) (leb (f .cut) (cutOf (port out) (h .k))) ≡ true
+    beyond = both (sameTurn (port out .reverse) (f .reverse)) (pick (f .reverse) (leb (cutOf (port out) (h .k)) (f .cut)) (leb (f .cut) (cutOf (port out) (h .k)))) on .1
+
+    ahead : (i : ℕ) → i < l .count → (f .reverse ≡ false → f .next ≤ i + 1) → (f .reverse ≡ true → i + 1 ≤ f .next) → port i .reverse ≡ f .reverse → (r : Bool) → f .reverse ≡ r
+        → clear (pieceTo (bare f) (cutOf (port i) (h .k))) (flat (a .routes) ++ a .route) ≡ false
+    ahead i lt fo re turn true e =
+        let le : i ≤ out = rw e (let z = re e in omega arith) in
+        let an = anchors (portsOf h s (l .number)) rising i out le (rw long low) in
+        let c = leb-true (cutOf (port out) (h .k)) (f .cut) (pick-first (f .reverse) _ _ beyond e) in
+        let d : cutOf (port i) (h .k) ≤ cutOf (port out) (h .k) = rw (turn, turn-out) (omega arith) in
+        clear-less (pieceTo (bare f) (cutOf (port out) (h .k))) (pieceTo (bare f) (cutOf (port i) (h .k))) refl (omega arith) (omega arith) (flat (a .routes) ++ a .route) not-clear
+    ahead i lt fo re turn false e =
+        let le : out ≤ i = rw e (let z = fo e in omega arith) in
+        let an = anchors (portsOf h s (l .number)) rising out i le (rw long lt) in
+        let c = leb-true (f .cut) (cutOf (port out) (h .k)) (pick-second (f .reverse) _ _ beyond e) in
+        let d : cutOf (port out) (h .k) ≤ cutOf (port i) (h .k) = rw (turn, turn-out) (omega arith) in
+        clear-less (pieceTo (bare f) (cutOf (port out) (h .k))) (pieceTo (bare f) (cutOf (port i) (h .k))) refl (omega arith) (omega arith) (flat (a .routes) ++ a .route) not-clear
+
+    pub blocked-start : Blocked s h l a f
+    blocked-start = record { told = λ i lt fo re same. ahead i lt fo re (turn-is (port i .reverse) (f .reverse) same) (f .reverse) refl }
+
+  -- and past the next port they still are
+  pub blocked-past : (r : Stored) → Past s h l f r → Blocked s h l a f → Blocked s h l a r
+  blocked-past r p b = go (p .how)
+    where
+      with-next : (lo hi : ℕ) → Blocked s h l a (movedTo f (onward (f .reverse) (f .next)) lo hi)
+      with-next lo hi = record { told = λ i lt fo re same. b .told i lt (λ e. (let z = fo e in let y : onward (f .reverse) (f .next) ≡ suc (f .next) = rw e in omega arith)) (λ e. (let z = re e in let y : onward (f .reverse) (f .next) ≡ f .next - 1 = rw e in omega arith)) same }
+
+      go : ((sameTurn (port (f .next - 1) .reverse) (f .reverse) ≡ true) × ((m : Members) × ((m ≡ bucketOf (port (f .next - 1) .word) (panelOf s .hub)) × (r ≡ movedTo f (onward (f .reverse) (f .next)) (m .lo) (m .hi)))))
+          ⊎ ((sameTurn (port (f .next - 1) .reverse) (f .reverse) ≡ false) × (r ≡ movedTo f (onward (f .reverse) (f .next)) 0 0)) → Blocked s h l a r
+      go (inl q) = rw (q .1 .1 .1) (with-next (q .1 .0 .lo) (q .1 .0 .hi))
+      go (inr q) = rw (q .1) (with-next 0 0)
+
+  -- with another part of the open hub left too
+  pub blocked-same : (lo hi : ℕ) → Blocked s h l a f → Blocked s h l a (movedTo f (f .next) lo hi)
+  blocked-same lo hi b = record { told = b .told }
+
+pub past-alike : (s : List ℕ) (h : Header) (l : Lane) (f r : Stored) → Past s h l f r → Alike r f × (r .terminal ≡ false)
+past-alike s h l f r p = go (p .how)
+  where
+    go : ((sameTurn (getD (portsOf h s (l .number)) (f .next - 1) noPort .reverse) (f .reverse) ≡ true) × ((m : Members) × ((m ≡ bucketOf (getD (portsOf h s (l .number)) (f .next - 1) noPort .word) (panelOf s .hub)) × (r ≡ movedTo f (onward (f .reverse) (f .next)) (m .lo) (m .hi)))))
+        ⊎ ((sameTurn (getD (portsOf h s (l .number)) (f .next - 1) noPort .reverse) (f .reverse) ≡ false) × (r ≡ movedTo f (onward (f .reverse) (f .next)) 0 0)) → Alike r f × (r .terminal ≡ false)
+    go (inl q) = (alike-moved f r _ _ _ (q .1 .1 .1), ap (λ (x : Stored). x .terminal) (q .1 .1 .1))
+    go (inr q) = (alike-moved f r _ _ _ (q .1), ap (λ (x : Stored). x .terminal) (q .1))
+
+-- the unit that it is, where no hub is open
+module _ (s : List ℕ) (h : Header) (family : Family) (l : Lane) (xs : List ℕ) (top : ℕ) (f : Stored) (on : On s h family l xs top f) (term : f .terminal ≡ false) (none : f .«hub_end» ≡ 0) (some : 0 < f .next)
+    (few : f .next ≤ l .count) (g : Stored) (p : Past s h l f g) where
+  past-told : (w : Bool)
+      → (sameTurn (getD (portsOf h s (l .number)) (f .next - 1) noPort .reverse) (f .reverse) ≡ true → w ≡ clear (pieceTo (bare f) (cutOf (getD (portsOf h s (l .number)) (f .next - 1) noPort) (h .k))) (pieces xs top))
+      → Turned s h family (pathAt xs top) f (record { action = Pass; frame = g; taken = 0; clear = w })
+  unfolding landingOf
+  past-told w ew = go (p .how)
+    where
+      go : ((sameTurn (getD (portsOf h s (l .number)) (f .next - 1) noPort .reverse) (f .reverse) ≡ true) × ((m : Members) × ((m ≡ bucketOf (getD (portsOf h s (l .number)) (f .next - 1) noPort .word) (panelOf s .hub)) × (g ≡ movedTo f (onward (f .reverse) (f .next)) (m .lo) (m .hi)))))
+          ⊎ ((sameTurn (getD (portsOf h s (l .number)) (f .next - 1) noPort .reverse) (f .reverse) ≡ false) × (g ≡ movedTo f (onward (f .reverse) (f .next)) 0 0))
+          → Turned s h family (pathAt xs top) f (record { action = Pass; frame = g; taken = 0; clear = w })
+      go (inl q) =
+          port-opens s h family l xs top f on term none some few (landingOf (h .k) (getD (portsOf h s (l .number)) (f .next - 1) noPort)) (onward (f .reverse) (f .next)) _ g refl refl refl (q .1 .0)
+          (pieceTo (bare f) (cutOf (getD (portsOf h s (l .number)) (f .next - 1) noPort) (h .k))) w (q .0) (q .1 .1 .0) refl (ew (q .0)) (q .1 .1 .1)
+      go (inr q) =
+          port-other s h family l xs top f on term none some few (landingOf (h .k) (getD (portsOf h s (l .number)) (f .next - 1) noPort)) (onward (f .reverse) (f .next)) _ g refl refl refl w (q .0) (q .1)
+
+  -- the ports ahead are blocked
+  pub past-turned : Blocked s h l (pathAt xs top) f → Turned s h family (pathAt xs top) f (record { action = Pass; frame = g; taken = 0; clear = false })
+  past-turned b = past-told false (λ e. rw (← path-pieces xs top) (sym (b .told (f .next - 1) (omega arith) (λ z. omega arith) (λ z. omega arith) e)))
+
+  -- no bucket opens
+  pub past-shut : g .«hub_end» ≡ 0 → Turned s h family (pathAt xs top) f (record { action = Pass; frame = g; taken = 0; clear = true })
+  past-shut z =
+      let t = past-told _ (λ e. refl) in
+      record {
+        act = t .act;
+        taken = t .taken;
+        alike = t .alike;
+        sound = t .sound;
+        child = t .child;
+        slots = t .slots;
+        flagged = shut (panelOf s) (frameWith (pathAt xs top) g) true z;
+        kept = pass-not-down true;
+        left = pass-not-left true;
+      }
+
+  -- one does: the piece up to it is tested
+  pub past-tested : (i : ℕ) (q : Landing) (t : Segment) (w : Bool) → i ≡ f .next - 1 → q ≡ landingOf (h .k) (getD (portsOf h s (l .number)) i noPort) → t ≡ pieceTo (bare f) (q .cut) → w ≡ clear t (pieces xs top)
+      → Turned s h family (pathAt xs top) f (record { action = Pass; frame = g; taken = 0; clear = w })
+  unfolding landingOf
+  past-tested i q t w ei eq et ew = past-told w (λ e. ew ∙ rw (et, eq, ei))

@@ -1,22 +1,26 @@
 -- One unit on a stored frame, against the walk's unit; nothing here is part of a public promise.
-use Prim.Native.Nat.{ℕ, zero, suc, _+_, _*_, _≤_, _<_}
+use Prim.Native.Nat.{ℕ, zero, suc, _+_, _-_, _*_, _≤_, _<_}
+use mathlib.Core.Logic.{_⊎_}
 use mathlib.Core.Path.{_≡_}
 use mathlib.Core.Bool.{Bool, true, false, not, _&&_}
 use mathlib.Core.List.{List, [], _∷_, _++_}
-use lib.Dec.{ltb, eqb}
+use lib.Dec.{leb, ltb, eqb}
 use lib.ListN.{length, getD}
 use Rattle.ground.specs.Lists.{pick}
-use Rattle.storage.specs.Records.{noPort}
+use Rattle.storage.specs.Records.{noPort, cutOf, sameTurn}
+use Rattle.storage.specs.declared.Port.{Port}
+use Rattle.storage.specs.declared.Members.{Members}
+use Rattle.storage.specs.Orders.{bucketOf}
 use Rattle.image.specs.declared.Header.{Header}
 use Rattle.image.specs.declared.Lane.{Lane}
 use Rattle.image.specs.declared.Family.{Family}
-use Rattle.image.specs.Image.{counts}
+use Rattle.image.specs.Image.{counts, portsOf}
 use Rattle.image.specs.Inner.{Started, Stands, Groups}
 use Rattle.image.specs.Panel.{Panel, panelOf, pathsAt}
 use Rattle.panel.specs.Inner.{Accepted}
 use Rattle.evaluate.specs.declared.Segment.{Segment}
-use Rattle.evaluate.specs.Segments.{clear}
-use Rattle.search.specs.Walk.{Place, Frame, Doing, pass, down, give, Act, leave, doing, firstPort, begins, pieceTo, onPath, memberTask, reach, outgoing, behind, hubOpen, unitOf, takesMember}
+use Rattle.evaluate.specs.Segments.{clear, flat}
+use Rattle.search.specs.Walk.{Place, Frame, Doing, pass, down, give, Act, leave, doing, firstPort, begins, pieceTo, onPath, memberTask, reach, outgoing, behind, onward, hubOpen, unitOf, takesMember}
 use Rattle.search.specs.Rooms.{frameWidth}
 use Rattle.frames.specs.declared.Stored.{Stored}
 use Rattle.frames.specs.Inner.{Path, noPath, longer, pathTo, pathAt, pieces, placeWith, frameWith, storedAt, put, Alike}
@@ -160,3 +164,20 @@ pub record Ready (s : List ℕ) (h : Header) (starts : List ℕ) (family : Famil
 pub record Moved (s : List ℕ) (h : Header) (family : Family) (xs ys : List ℕ) (top : ℕ) (t : Turn) : Type 0 where
   pub turned : Turned s h family (pathAt xs top) (storedAt xs top) t
   pub room : ys ≡ put xs top (t .frame)
+
+-- ---- a frame whose ports ahead are all blocked
+
+-- the port of the open hub is of the frame's orientation, and not behind its cut
+abbrev pub leadsOn : ℕ → Stored → Port → Bool
+leadsOn k f q = sameTurn (q .reverse) (f .reverse) && pick (f .reverse) (leb (cutOf q k) (f .cut)) (leb (f .cut) (cutOf q k))
+
+-- the piece to each port ahead of the frame f, of its orientation, is not clear of the path a
+pub record Blocked (s : List ℕ) (h : Header) (l : Lane) (a : Path) (f : Stored) : Type 0 where
+  pub told : (i : ℕ) → i < l .count → (f .reverse ≡ false → f .next ≤ i + 1) → (f .reverse ≡ true → i + 1 ≤ f .next) → sameTurn (getD (portsOf h s (l .number)) i noPort .reverse) (f .reverse) ≡ true
+      → clear (pieceTo (bare f) (cutOf (getD (portsOf h s (l .number)) i noPort) (h .k))) (flat (a .routes) ++ a .route) ≡ false
+
+-- the frame r is f past its next port, which opens its bucket or is of the other orientation
+pub record Past (s : List ℕ) (h : Header) (l : Lane) (f r : Stored) : Type 0 where
+  pub how : ((sameTurn (getD (portsOf h s (l .number)) (f .next - 1) noPort .reverse) (f .reverse) ≡ true)
+      × ((m : Members) × ((m ≡ bucketOf (getD (portsOf h s (l .number)) (f .next - 1) noPort .word) (panelOf s .hub)) × (r ≡ movedTo f (onward (f .reverse) (f .next)) (m .lo) (m .hi)))))
+      ⊎ ((sameTurn (getD (portsOf h s (l .number)) (f .next - 1) noPort .reverse) (f .reverse) ≡ false) × (r ≡ movedTo f (onward (f .reverse) (f .next)) 0 0))

@@ -2,14 +2,17 @@
 ghost use mathlib.Core.Path.{_≡_};
 ghost use mathlib.Core.Bool.{true, false};
 ghost use Prim.Native.Nat.{_+_, _*_, _≤_, _<_};
-ghost use lib.ListN.{length};
+ghost use lib.ListN.{length, getD};
+ghost use Rattle.storage.specs.Records.{noPort};
+ghost use Rattle.image.specs.Image.{portsOf};
 ghost use Rattle.image.specs.Inner.{Started, Stands, Groups};
 ghost use Rattle.image.specs.Panel.{panelOf};
 ghost use Rattle.panel.specs.Inner.{Accepted};
 ghost use Rattle.search.specs.Walk.{pieceTo, behind, onward};
 ghost use Rattle.search.specs.Rooms.{frameWidth};
 ghost use Rattle.frames.specs.Inner.{pathAt, frameWith, pieces};
-ghost use Rattle.advance.specs.Inner.{bare, movedTo, childOf, entered, leaving, closesBy, Sound, Flagged, Ends, Meets, On, Turned, Ready, Moved};
+ghost use Rattle.landings.specs.Inner.{Known};
+ghost use Rattle.advance.specs.Inner.{bare, movedTo, childOf, entered, leaving, closesBy, Sound, Flagged, Ends, Meets, On, Turned, Ready, Moved, leadsOn, Past};
 use evaluate::Segment;
 use frames::Stored;
 use landings::Landing;
@@ -248,41 +251,62 @@ fn go_onward(f: Stored) -> u64
     if f.reverse { f.next - 1 } else { f.next + 1 }
 }
 
-// A port of the frame's orientation opens its bucket, another is passed over.
-fn pass_port(
+// The frame past its next port: one of the frame's orientation opens its bucket, another is passed over. A hub that was open is closed by it.
+pub fn past_next(
     image: &[u8],
     h: image::Header,
-    family: image::Family,
+    memo: &mut [usize; landings::MEMO],
     l: image::Lane,
-    frames: &[u64],
-    top: usize,
     f: Stored,
-) -> Turn
-    requires { ⌜ On (now image) h family l (now frames) top f × (f .terminal ≡ false) × (f .«hub_end» ≡ 0) × (0 < f .next) × (f .next ≤ l .count) ⌝ }
-    ensures { λ r. ⌜ Turned (now (image .entry)) h family (pathAt (now (frames .entry)) top) f r ⌝ }
+) -> Stored
+    requires { ⌜ Accepted (now image) h × Stands (now image) h l × (0 < f .next) × (f .next ≤ l .count) × Known (now image) h (now memo) ⌝ }
+    ensures { λ r. ⌜ Past (now (image .entry)) h l f r ⌝ }
+    ensures { λ r. ⌜ Known (now (image .entry)) h (now (memo .exit)) ⌝ }
 {
     let next = f.next as usize;
     let i = next - 1;
     let q = landings::lane_landing(image, h, l, i);
     let on = go_onward(f);
     if landings::is_same_turn(q.reverse, f.reverse) {
-        let m = landings::port_bucket(image, h, l, i);
-        let clear = frames::is_clear(frames, top, piece_to(f, q.cut));
-        let frame = moved(f, on, m.lo as u64, m.hi as u64);
-        Turn {
-            action: Action::Pass,
-            frame,
-            taken: 0,
-            clear,
-        }
+        let m = landings::port_bucket(image, h, memo, l, i);
+        moved(f, on, m.lo as u64, m.hi as u64)
     } else {
-        let frame = moved(f, on, 0, 0);
-        Turn {
+        moved(f, on, 0, 0)
+    }
+}
+
+// The next port is passed; where its bucket opens, the piece up to it is held against the path.
+fn pass_port(
+    image: &[u8],
+    h: image::Header,
+    memo: &mut [usize; landings::MEMO],
+    family: image::Family,
+    l: image::Lane,
+    frames: &[u64],
+    top: usize,
+    f: Stored,
+) -> Turn
+    requires { ⌜ On (now image) h family l (now frames) top f × (f .terminal ≡ false) × (f .«hub_end» ≡ 0) × (0 < f .next) × (f .next ≤ l .count) × Known (now image) h (now memo) ⌝ }
+    ensures { λ r. ⌜ Turned (now (image .entry)) h family (pathAt (now (frames .entry)) top) f r ⌝ }
+    ensures { λ r. ⌜ Known (now (image .entry)) h (now (memo .exit)) ⌝ }
+{
+    let frame = past_next(image, h, memo, l, f);
+    if frame.hub_end == 0 {
+        return Turn {
             action: Action::Pass,
             frame,
             taken: 0,
             clear: true,
-        }
+        };
+    }
+    let next = f.next as usize;
+    let q = landings::lane_landing(image, h, l, next - 1);
+    let clear = frames::is_clear(frames, top, piece_to(f, q.cut));
+    Turn {
+        action: Action::Pass,
+        frame,
+        taken: 0,
+        clear,
     }
 }
 
@@ -301,14 +325,16 @@ fn leave(f: Stored) -> Turn
 fn port_unit(
     image: &[u8],
     h: image::Header,
+    memo: &mut [usize; landings::MEMO],
     family: image::Family,
     l: image::Lane,
     frames: &[u64],
     top: usize,
     f: Stored,
 ) -> Turn
-    requires { ⌜ On (now image) h family l (now frames) top f × (f .terminal ≡ false) × (f .«hub_end» ≡ 0) ⌝ }
+    requires { ⌜ On (now image) h family l (now frames) top f × (f .terminal ≡ false) × (f .«hub_end» ≡ 0) × Known (now image) h (now memo) ⌝ }
     ensures { λ r. ⌜ Turned (now (image .entry)) h family (pathAt (now (frames .entry)) top) f r ⌝ }
+    ensures { λ r. ⌜ Known (now (image .entry)) h (now (memo .exit)) ⌝ }
 {
     if f.next == 0 {
         return leave(f);
@@ -316,7 +342,7 @@ fn port_unit(
     if l.count < f.next as usize {
         return leave(f);
     }
-    pass_port(image, h, family, l, frames, top, f)
+    pass_port(image, h, memo, family, l, frames, top, f)
 }
 
 // ---- one unit
@@ -324,6 +350,7 @@ fn port_unit(
 fn unit(
     image: &[u8],
     h: image::Header,
+    memo: &mut [usize; landings::MEMO],
     family: image::Family,
     l: image::Lane,
     frames: &[u64],
@@ -331,14 +358,15 @@ fn unit(
     f: Stored,
     clear: bool,
 ) -> Turn
-    requires { ⌜ On (now image) h family l (now frames) top f × Flagged (panelOf (now image)) (frameWith (pathAt (now frames) top) f) clear ⌝ }
+    requires { ⌜ On (now image) h family l (now frames) top f × Flagged (panelOf (now image)) (frameWith (pathAt (now frames) top) f) clear × Known (now image) h (now memo) ⌝ }
     ensures { λ r. ⌜ Turned (now (image .entry)) h family (pathAt (now (frames .entry)) top) f r ⌝ }
+    ensures { λ r. ⌜ Known (now (image .entry)) h (now (memo .exit)) ⌝ }
 {
     if f.terminal {
         return terminal_unit(image, h, family, l, frames, top, f);
     }
     if f.hub_end == 0 {
-        port_unit(image, h, family, l, frames, top, f)
+        port_unit(image, h, memo, family, l, frames, top, f)
     } else {
         hub_unit(image, h, family, l, frames, top, f, clear)
     }
@@ -349,17 +377,39 @@ pub fn advance(
     image: &[u8],
     h: image::Header,
     starts: &[usize; 4096],
+    memo: &mut [usize; landings::MEMO],
     family: image::Family,
     frames: &mut [u64],
     top: usize,
     clear: bool,
 ) -> Turn
-    requires { ⌜ Ready (now image) h (now starts) family (now frames) top clear ⌝ }
+    requires { ⌜ Ready (now image) h (now starts) family (now frames) top clear × Known (now image) h (now memo) ⌝ }
     ensures { λ r. ⌜ Moved (now (image .entry)) h family (now (frames .entry)) (now (frames .exit)) top r ⌝ }
+    ensures { λ r. ⌜ Known (now (image .entry)) h (now (memo .exit)) ⌝ }
 {
     let f = frames::frame_at(frames, top);
     let l = image::lane_of(image, h, starts, f.source as usize);
-    let t = unit(image, h, family, l, frames, top, f, clear);
+    let t = unit(image, h, memo, family, l, frames, top, f, clear);
     frames::put_frame(frames, top, t.frame);
     t
+}
+
+// ---- a frame whose ports ahead are all blocked
+
+// Whether the open hub's port is of the frame's orientation and not behind its cut. Then the piece to any port ahead of it is longer: where
+// the one is not clear, none is.
+pub fn leads_on(image: &[u8], h: image::Header, l: image::Lane, f: Stored) -> bool
+    requires { ⌜ Accepted (now image) h × Stands (now image) h l × (l .number ≡ f .source) × (behind (f .reverse) (f .next) < l .count) × (f .reverse ≡ false → 2 ≤ f .next) ⌝ }
+    ensures { λ r. ⌜ r ≡ leadsOn (h .k) f (getD (portsOf h (now (image .entry)) (l .number)) (behind (f .reverse) (f .next)) noPort) ⌝ }
+{
+    let out = landings::lane_landing(image, h, l, behind_next(f));
+    if landings::is_same_turn(out.reverse, f.reverse) {
+        if f.reverse {
+            out.cut <= f.cut
+        } else {
+            f.cut <= out.cut
+        }
+    } else {
+        false
+    }
 }

@@ -8,8 +8,8 @@ use mathlib.Core.Bool.{Bool, true, false, not, _&&_}
 use mathlib.Core.Logic.{_⊎_, inl, inr}
 use mathlib.Core.List.{List, [], _∷_, _++_, append-assoc, append-nil}
 use lib.Dec.{eqb, ltb, leb}
-use lib.ListN.{length, getD, take, drop, length-append, List·getD-append}
-use lib.Seq.{sets-eq, sets, take-add, drop-cons, length-sets, getD-at}
+use lib.ListN.{length, getD, take, drop, length-append, List·getD-append, take-append-drop}
+use lib.Seq.{sets-eq, sets, take-add, drop-cons, length-sets, getD-at, drop-drop}
 use borrow.Author.Tests.{eq-eqb, ne-eqb, lt-ltb, le-ltb, le-leb, lt-leb, ltb-true, ltb-false}
 use Rattle.ground.specs.Lists.{all}
 use Rattle.evaluate.specs.declared.Segment.{Segment}
@@ -332,6 +332,18 @@ frame-words : (xs : List ℕ) (i : ℕ) → Linked xs (suc i) → (i + 1) * fram
 unfolding frameOf
 frame-words xs i k h =
     rw (path-pieces xs i, piece-words xs i k, ← k .turned i (omega arith), ← k .waiting i (omega arith)) (ten xs (i * frameWidth) (omega arith) ∙ words-at xs i)
+
+-- a frame put where it stands changes nothing
+pub put-stored : (xs : List ℕ) (i : ℕ) → (i + 1) * frameWidth ≤ length xs → Linked xs (i + 1) → put xs i (storedAt xs i) ≡ xs
+unfolding put
+put-stored xs i h k =
+    let words : storedWords (storedAt xs i) ≡ take 10 (drop (i * frameWidth) xs) =
+    rw (← k .turned i (omega arith), ← k .waiting i (omega arith)) (sym (ten xs (i * frameWidth) (omega arith) ∙ words-at xs i)) in
+    sets-eq (storedWords (storedAt xs i)) xs (i * frameWidth) (omega arith)
+    ∙ ap (λ (w : List ℕ). take (i * frameWidth) xs ++ w ++ drop (i * frameWidth + 10) xs) words
+    ∙ append-assoc (take (i * frameWidth) xs) (take 10 (drop (i * frameWidth) xs)) (drop (i * frameWidth + 10) xs)
+    ∙ ap (λ (w : List ℕ). take (i * frameWidth) xs ++ (take 10 (drop (i * frameWidth) xs) ++ w)) (sym (drop-drop 10 (i * frameWidth) xs))
+    ∙ ap (λ (w : List ℕ). take (i * frameWidth) xs ++ w) (take-append-drop 10 (drop (i * frameWidth) xs)) ∙ take-append-drop (i * frameWidth) xs
 
 -- the words of the room's first frames are those of the stack
 pub take-words : (xs : List ℕ) (d : ℕ) → Linked xs d → d * frameWidth ≤ length xs → take (d * frameWidth) xs ≡ stackWords (stackOf xs d)

@@ -1,7 +1,8 @@
 -- Laws of landings, of the first port past a cut, and of a port's bucket.
-use Prim.Native.Nat.{ℕ, zero, suc, _+_, _-_, _*_, _/_, _≤_, _<_}
+use Prim.Native.Nat.{ℕ, zero, suc, _+_, _-_, _*_, _/_, _%_, _≤_, _<_}
 use native.Mathlib.Nat.{eq-or-lt-of-le}
 use native.Mathlib.Omega.{arith}
+use native.Mathlib.Decide.{ℕ-discrete}
 use mathlib.Core.Path.{_≡_, refl, sym, ap, _∙_}
 use mathlib.Core.Bool.{Bool, true, false, _&&_}
 use mathlib.Core.List.{List, [], _∷_, _++_}
@@ -10,8 +11,8 @@ use mir.Val.{Fits}
 use borrow.Author.Needs.{fits-under}
 use mir.Syntax.{w64}
 use lib.Dec.{leb, ltb, eqb}
-use lib.ListN.{length, getD, take, drop, length-drop}
-use lib.Seq.{length-take-le}
+use lib.ListN.{length, getD, take, drop, length-drop, set, length-set, replicate, length-replicate, getD-replicate}
+use lib.Seq.{length-take-le, getD-set-same, getD-set-other}
 use borrow.Author.Tests.{eqb-true, eq-eqb, ne-eqb, le-leb, leb-true, lt-ltb, ltb-true}
 use Rattle.ground.specs.Lists.{count, each}
 use Rattle.ground.proofs.ListLaws.{Falls, Cut, cut-up, cut-down, cut-done}
@@ -24,7 +25,7 @@ use Rattle.storage.proofs.Laws.{reverse-read, record-is}
 use Rattle.storage.proofs.OrderLaws.{turn-small}
 use Rattle.image.specs.declared.Header.{Header}
 use Rattle.image.specs.declared.Lane.{Lane}
-use Rattle.image.specs.Image.{portsOf, hub}
+use Rattle.image.specs.Image.{portsOf, lanePorts, hub}
 use Rattle.image.specs.Inner.{Stands}
 use Rattle.image.specs.Panel.{panelOf}
 use Rattle.image.proofs.Laws.{row-length, lane-port-is, lane-index}
@@ -32,7 +33,7 @@ use Rattle.panel.specs.Inner.{Accepted}
 use Rattle.panel.specs.Refusals.{laneRising, soundPort}
 use Rattle.panel.proofs.Laws.{lane-rises, row-rises, lane-port-small, record-sound, port-small}
 use Rattle.landings.specs.declared.Landing.{Landing}
-use Rattle.landings.specs.Inner.{landingOf, sameLanding, reached, Here}
+use Rattle.landings.specs.Inner.{landingOf, sameLanding, reached, Here, memoWords, seatOf, Known}
 
 -- ---- where a port lands
 
@@ -75,7 +76,7 @@ module _ (a b : Landing) where
 
 -- ---- the first port past a cut
 
-anchors : (l : List Port) → laneRising l ≡ true → (p q : ℕ) → p ≤ q → q < length l → getD l p noPort .anchor ≤ getD l q noPort .anchor
+pub anchors : (l : List Port) → laneRising l ≡ true → (p q : ℕ) → p ≤ q → q < length l → getD l p noPort .anchor ≤ getD l q noPort .anchor
 unfolding placeOf
 anchors l e p q le m = go (eq-or-lt-of-le le)
   where
@@ -139,3 +140,80 @@ bucket-told s k at q m l e t =
     let d : at + k - at ≡ k = omega arith in
     let w : padded (take k (drop at s)) k ≡ q .word = word-of s k at ∙ ap (λ (p : Port). p .word) (e .is) in
     t ∙ rw (d, w)
+
+-- ---- the memo of buckets
+
+pub seat-room : (port : ℕ) → 3 * (port % 4096) + 2 < memoWords
+seat-room port = omega arith
+
+pub known-none : (s : List ℕ) (h : Header) (memo : List ℕ) → memo ≡ replicate memoWords 0 → Known s h memo
+known-none s h memo e =
+    record { long = ap length e ∙ length-replicate {A = ℕ} memoWords 0; told = λ port q. absurd (let z : getD memo (seatOf port) 0 ≡ 0 = ap (λ (l : List ℕ). getD l (seatOf port) 0) e ∙ getD-replicate memoWords (seatOf port) 0 0 (omega (arith, seat-room port)) in omega arith) }
+
+module _ (s : List ℕ) (h : Header) (l : Lane) (i port : ℕ) (st : Stands s h l) (lt : i < l .count) (e : port ≡ l .start + i) where
+  word-at-seat : getD (lanePorts h s) port noPort ≡ getD (portsOf h s (l .number)) i noPort
+  unfolding lanePorts
+  word-at-seat = lane-port-is s h l st i _ lt (rw e)
+
+  -- a bucket that stands in the memo
+  pub known-is : (memo : List ℕ) → Known s h memo → getD memo (seatOf port) 0 ≡ port + 1
+      → _≡_ {A = Members} (record { lo = getD memo (seatOf port + 1) 0; hi = getD memo (seatOf port + 2) 0 }) (bucketOf (getD (portsOf h s (l .number)) i noPort .word) (panelOf s .hub))
+  known-is memo k q = k .told port q ∙ ap (λ (p : Port). bucketOf (p .word) (panelOf s .hub)) word-at-seat
+
+  -- a bucket that was sought takes its seat
+  module _ (memo : List ℕ) (m : Members) (k : Known s h memo) (em : m ≡ bucketOf (getD (portsOf h s (l .number)) i noPort .word) (panelOf s .hub)) where
+    abbrev one : List ℕ
+    one = set memo (seatOf port) (port + 1)
+
+    abbrev two : List ℕ
+    two = set one (seatOf port + 1) (m .lo)
+
+    abbrev three : List ℕ
+    three = set two (seatOf port + 2) (m .hi)
+
+    room : seatOf port + 2 < memoWords
+    room = seat-room port
+
+    long-two : length two ≡ memoWords
+    long-two = length-set one (seatOf port + 1) (m .lo) ∙ length-set memo (seatOf port) (port + 1) ∙ k .long
+
+    -- another seat is as it was
+    other : (j : ℕ) → (j ≡ seatOf port → ⊥) → (j ≡ seatOf port + 1 → ⊥) → (j ≡ seatOf port + 2 → ⊥) → getD three j 0 ≡ getD memo j 0
+    other j a b c =
+        getD-set-other two (seatOf port + 2) j (m .hi) 0 c ∙ getD-set-other one (seatOf port + 1) j (m .lo) 0 b
+        ∙ getD-set-other memo (seatOf port) j (port + 1) 0 a
+
+    first : getD three (seatOf port) 0 ≡ port + 1
+    first =
+        getD-set-other two (seatOf port + 2) (seatOf port) (m .hi) 0 (λ e. let z : ⊥ = omega arith in z) ∙ getD-set-other one (seatOf port + 1) (seatOf port) (m .lo) 0 (λ e. let z : ⊥ = omega arith in z)
+        ∙ getD-set-same memo (seatOf port) (port + 1) 0 (omega (arith, k .long, room))
+
+    second : getD three (seatOf port + 1) 0 ≡ m .lo
+    second =
+        getD-set-other two (seatOf port + 2) (seatOf port + 1) (m .hi) 0 (λ e. let z : ⊥ = omega arith in z)
+        ∙ getD-set-same one (seatOf port + 1) (m .lo) 0 (rw (length-set memo (seatOf port) (port + 1)) (omega (arith, k .long, room)))
+
+    third : getD three (seatOf port + 2) 0 ≡ m .hi
+    third = getD-set-same two (seatOf port + 2) (m .hi) 0 (omega (arith, long-two, room))
+
+    pub known-more : Known s h three
+    known-more = record { long = length-set two (seatOf port + 2) (m .hi) ∙ long-two; told = λ q e. go q e (ℕ-discrete (seatOf q) (seatOf port)) }
+      where
+        go : (q : ℕ) → getD three (seatOf q) 0 ≡ q + 1 → Dec (seatOf q ≡ seatOf port)
+            → _≡_ {A = Members} (record { lo = getD three (seatOf q + 1) 0; hi = getD three (seatOf q + 2) 0 }) (bucketOf (getD (lanePorts h s) q noPort .word) (panelOf s .hub))
+        go q e (yes y) =
+            let same : q ≡ port = (let z : getD three (seatOf q) 0 ≡ port + 1 = rw y first in omega arith) in
+            rw (y, second, third, same, word-at-seat) em
+        go q e (no n) =
+            let a = other (seatOf q) n (λ z. let y : ⊥ = omega arith in y) (λ z. let y : ⊥ = omega arith in y) in
+            let b = other (seatOf q + 1) (λ z. let y : ⊥ = omega arith in y) (λ z. n (omega arith)) (λ z. let y : ⊥ = omega arith in y) in
+            let c = other (seatOf q + 2) (λ z. let y : ⊥ = omega arith in y) (λ z. let y : ⊥ = omega arith in y) (λ z. n (omega arith)) in
+            rw (b, c) (k .told q (sym a ∙ e))
+
+-- the number of a port, and one more, are small
+module _ (s : List ℕ) (h : Header) (l : Lane) (i : ℕ) (st : Stands s h l) (lt : i < l .count) where
+  pub port-fits : Fits w64 (l .start + i)
+  port-fits = let w = lane-index s h l st i lt in let z : l .start + i < 8388608 = omega (arith, st .counted .framed .fewPorts) in fits-under w64 (l .start + i) 8388608 z tt
+
+  pub port-next-fits : Fits w64 (l .start + i + 1)
+  port-next-fits = let w = lane-index s h l st i lt in let z : l .start + i + 1 < 8388608 = omega (arith, st .counted .framed .fewPorts) in fits-under w64 (l .start + i + 1) 8388608 z tt

@@ -1,7 +1,7 @@
 // What a unit of the walk reads of port records, each in its own place: where a port lands, the first port past a cut, a port's bucket.
 ghost use mathlib.Core.Path.{_≡_};
 ghost use Prim.Native.Nat.{_+_, _≤_, _<_};
-ghost use lib.ListN.{length, drop, getD};
+ghost use lib.ListN.{length, drop, getD, replicate};
 ghost use Rattle.ground.specs.Lists.{count};
 ghost use Rattle.storage.specs.Records.{portOf, recordSize, sameTurn, noPort};
 ghost use Rattle.storage.specs.Orders.{bucketOf};
@@ -9,7 +9,7 @@ ghost use Rattle.image.specs.Image.{portsOf, hub};
 ghost use Rattle.image.specs.Inner.{Stands};
 ghost use Rattle.image.specs.Panel.{panelOf};
 ghost use Rattle.panel.specs.Inner.{Accepted};
-ghost use Rattle.landings.specs.Inner.{landingOf, sameLanding, reached, Here};
+ghost use Rattle.landings.specs.Inner.{landingOf, sameLanding, reached, Here, memoWords, Known};
 
 // Where a port lands: its lane, cut and orientation.
 pub struct Landing {
@@ -133,12 +133,51 @@ pub fn ports_reached(
 
 // ---- a port's bucket
 
+// A memo of buckets: SEATS times three words, a lane port's number and 1, and where its bucket begins and ends. A port's seat goes by its
+// number; a later port takes the seat.
+pub const SEATS: usize = 4096;
+
+pub const MEMO: usize = 3 * SEATS;
+
+pub fn no_memo() -> [usize; MEMO]
+    ensures { λ r. ⌜ r ≡ replicate memoWords 0 ⌝ }
+{
+    [0usize; MEMO]
+}
+
 // The global records with the word of record i of a lane's list: the word is lent from its own place.
-pub fn port_bucket(image: &[u8], h: image::Header, l: image::Lane, i: usize) -> storage::Members
+fn sought_bucket(image: &[u8], h: image::Header, l: image::Lane, i: usize) -> storage::Members
     requires { ⌜ Accepted (now image) h × Stands (now image) h l × (i < l .count) ⌝ }
     ensures { λ r. ⌜ r ≡ bucketOf (getD (portsOf h (now (image .entry)) (l .number)) i noPort .word) (panelOf (now (image .entry)) .hub) ⌝ }
 {
     let at = lane_offset(image, h, l, i);
     let end = at + h.k;
     graph::panel_bucket(image, h, &image[at..end])
+}
+
+// The same by way of the memo: a bucket that was found before is not sought again.
+pub fn port_bucket(
+    image: &[u8],
+    h: image::Header,
+    memo: &mut [usize; MEMO],
+    l: image::Lane,
+    i: usize,
+) -> storage::Members
+    requires { ⌜ Accepted (now image) h × Stands (now image) h l × (i < l .count) × Known (now image) h (now memo) ⌝ }
+    ensures { λ r. ⌜ r ≡ bucketOf (getD (portsOf h (now (image .entry)) (l .number)) i noPort .word) (panelOf (now (image .entry)) .hub) ⌝ }
+    ensures { λ r. ⌜ Known (now (image .entry)) h (now (memo .exit)) ⌝ }
+{
+    let port = l.start + i;
+    let seat = 3 * (port % SEATS);
+    if memo[seat] == port + 1 {
+        return storage::Members {
+            lo: memo[seat + 1],
+            hi: memo[seat + 2],
+        };
+    }
+    let m = sought_bucket(image, h, l, i);
+    memo[seat] = port + 1;
+    memo[seat + 1] = m.lo;
+    memo[seat + 2] = m.hi;
+    m
 }

@@ -13,6 +13,7 @@ ghost use Rattle.search.specs.Rooms.{frameWidth, slotWidth};
 ghost use Rattle.search.specs.Run.{walk};
 ghost use Rattle.search.specs.Counters.{statusOf, statusNumber};
 ghost use Rattle.search.specs.Answers.{ListRooms, refusedList, listAnswer, listRooms};
+ghost use Rattle.landings.specs.Inner.{Known};
 ghost use Rattle.walks.specs.Inner.{assigned, toGo, Walking};
 ghost use Rattle.listing.specs.Inner.{Handed, seedTally, FrameRoom, Onward, Entered, Ended, Sown, Told, Replied, listPanelRefusal};
 use evaluate::Segment;
@@ -124,6 +125,7 @@ fn run(
     image: &[u8],
     h: image::Header,
     starts: &[usize; 4096],
+    memo: &mut [usize; landings::MEMO],
     b: SearchBudget,
     v: usize,
     frames: &mut [u64],
@@ -132,7 +134,7 @@ fn run(
     from: Standing,
     first: Listing,
 ) -> Listed
-    requires { ⌜ Accepted (now image) h × Started (now image) h (now starts) ⌝ }
+    requires { ⌜ Accepted (now image) h × Started (now image) h (now starts) × Known (now image) h (now memo) ⌝ }
     requires { ⌜ Walking (now image) h b (now frames) (from .tally) (from .depth) (from .start) (from .clear) ⌝ }
     requires { ⌜ Onward v (toGo (panelOf (now image)) b (from .tally) (now frames) (from .depth)) first (now slot) (now out) ⌝ }
     ensures { λ r. ⌜ Ended b v (toGo (panelOf (now (image .entry))) b (from .tally) (now (frames .entry)) (from .depth)) first (now (frames .entry)) (now (slot .entry)) (now (out .entry)) (now (frames .exit)) (now (slot .exit)) (now (out .exit)) r ⌝ }
@@ -140,7 +142,7 @@ fn run(
     let mut at = from;
     let mut listing = first;
     loop {
-        let pause = walks::go_on(image, h, starts, b, frames, at);
+        let pause = walks::go_on(image, h, starts, memo, b, frames, at);
         at = pause.at;
         let halt = pause.halt;
         match halt {
@@ -208,6 +210,7 @@ fn list_families(
     image: &[u8],
     h: image::Header,
     starts: &[usize; 4096],
+    memo: &mut [usize; landings::MEMO],
     b: SearchBudget,
     v: usize,
     frames: &mut [u64],
@@ -215,7 +218,7 @@ fn list_families(
     out: &mut [u64],
     first: Listing,
 ) -> Listed
-    requires { ⌜ Accepted (now image) h × Started (now image) h (now starts) × FrameRoom b (now frames) ⌝ }
+    requires { ⌜ Accepted (now image) h × Started (now image) h (now starts) × Known (now image) h (now memo) × FrameRoom b (now frames) ⌝ }
     requires { ⌜ Onward v (walk (panelOf (now image)) b) first (now slot) (now out) ⌝ }
     ensures { λ r. ⌜ Ended b v (walk (panelOf (now (image .entry))) b) first (now (frames .entry)) (now (slot .entry)) (now (out .entry)) (now (frames .exit)) (now (slot .exit)) (now (out .exit)) r ⌝ }
 {
@@ -252,7 +255,19 @@ fn list_families(
     }
     walks::put_root(image, h, starts, frames, 0, 0);
     let root = Standing { depth: 1, ..at };
-    run(image, h, starts, b, v, frames, slot, out, root, listing)
+    run(
+        image,
+        h,
+        starts,
+        memo,
+        b,
+        v,
+        frames,
+        slot,
+        out,
+        root,
+        listing,
+    )
 }
 
 // ---- the answer
@@ -287,13 +302,14 @@ fn list_in(
     ensures { λ r. ⌜ Told (panelOf (now (image .entry))) b from (now (frames .entry)) (now (slot .entry)) (now (out .entry)) (now (frames .exit)) (now (slot .exit)) (now (out .exit)) r ⌝ }
 {
     let starts = image::lane_starts(image, h);
+    let mut memo = landings::no_memo();
     let first = Listing {
         skip: from,
         full: false,
         written: 0,
         words: 0,
     };
-    let e = list_families(image, h, &starts, b, v, frames, slot, out, first);
+    let e = list_families(image, h, &starts, &mut memo, b, v, frames, slot, out, first);
     let stop = e.stop;
     walks::leave_frames(b, frames, stop, e.at.depth);
     frames::clear_words(slot, 0, v);

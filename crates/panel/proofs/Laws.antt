@@ -14,7 +14,7 @@ use lib.ListN.{length, drop, take, getD, replicate, length-drop}
 use lib.Seq.{getD-take, getD-drop, length-take-le}
 use borrow.Author.Tests.{le-leb, lt-leb, leb-true, lt-ltb, le-ltb, ltb-true, leb-false, ne-eqb}
 use Rattle.ground.specs.Lists.{each, split, all, any, count, rising, numbersFrom}
-use Rattle.ground.proofs.ListLaws.{both, each-length, each-from, all-at, AllFrom, all-next, Rises, rising-rises, Falls, Cut, RisingFrom, rising-start, rising-again, rising-fails, rising-ends, any-at, numbers-at, numbers-length}
+use Rattle.ground.proofs.ListLaws.{both, each-length, each-from, all-at, all-next, all-done, Rises, rising-rises, Falls, Cut, RisingFrom, rising-start, rising-again, rising-fails, rising-ends, any-at, numbers-at, numbers-length}
 use Rattle.storage.specs.Records.{portOf, noPort}
 use Rattle.storage.specs.Orders.{placeOf, place, placeLt, placeBefore, samePort}
 use Rattle.storage.specs.Inner.{Offset}
@@ -28,7 +28,7 @@ use Rattle.image.specs.Image.{entries, counts, lanePorts, portsOf, hub, noEntry
 use Rattle.image.specs.Inner.{Framed, Counted, Stands}
 use Rattle.image.proofs.Laws.{row-length, lane-within, rows-length, entries-length, lane-port-is, lane-index}
 use Rattle.panel.specs.Refusals.{lengthOk, letter, soundPlace, soundPort, soundRecord, soundRecords, isTrue, laneRising, lanesRising, listed, ownRow}
-use Rattle.panel.specs.Inner.{fourFrom, Ordered, Accepted}
+use Rattle.panel.specs.Inner.{Ordered, Accepted}
 
 -- ---- 6
 
@@ -44,48 +44,29 @@ module _ (s : List ℕ) (at k : ℕ) where
   pub letter-read : (i : ℕ) (r : Bool) → i < k → r ≡ letter (getD s (at + i) 0) → r ≡ letter (getD (take k (drop at s)) i 0)
   letter-read i r lt e = e ∙ rw (getD-take k (drop at s) i 0 lt, getD-drop at s i 0)
 
--- four letters, as they are read
-module _ (w : List ℕ) (i : ℕ) (a : Bool) (ea : a ≡ letter (getD w i 0)) where
-  pub four-not : a ≡ false → false ≡ fourFrom w i
-  four-not e = rw (← ea, e)
+-- the letters up to i, tested one by one
+pub record Tested (w : List ℕ) (k : ℕ) (good : Bool) (i : ℕ) : Type 0 where
+  pub within : i ≤ k
+  pub todo : all letter w ≡ (good && all letter (drop i w))
 
-  module _ (ta : a ≡ true) (b : Bool) (eb : b ≡ letter (getD w (i + 1) 0)) where
-    pub four-not-2 : b ≡ false → false ≡ fourFrom w i
-    four-not-2 e = rw (← ea, ta, ← eb, e)
+pub tested-start : (w : List ℕ) (k : ℕ) → Tested w k true 0
+tested-start w k = record { within = omega arith; todo = refl }
 
-    module _ (tb : b ≡ true) (c : Bool) (ec : c ≡ letter (getD w (i + 2) 0)) where
-      pub four-not-3 : c ≡ false → false ≡ fourFrom w i
-      four-not-3 e = rw (← ea, ta, ← eb, tb, ← ec, e)
+joined : (a b c : Bool) → (a && (b && c)) ≡ (a && b && c)
+joined true b c = refl
+joined false b c = refl
 
-      pub four-told : c ≡ true → (r : Bool) → r ≡ letter (getD w (i + 3) 0) → r ≡ fourFrom w i
-      four-told tc r er = er ∙ rw (← ea, ta, ← eb, tb, ← ec, tc)
+kept : (a : Bool) → (a && true) ≡ a
+kept true = refl
+kept false = refl
 
-four-joined : (a b c d r : Bool) → (a && (b && (c && (d && r)))) ≡ (a && b && c && d && r)
-four-joined true true true true r = refl
-four-joined true true true false r = refl
-four-joined true true false d r = refl
-four-joined true false c d r = refl
-four-joined false b c d r = refl
+module _ (w : List ℕ) (k i : ℕ) (good r : Bool) (so : Tested w k good i) (long : length w ≡ k) where
+  pub tested-next : (more : Bool) → i < k → r ≡ letter (getD w i 0) → more ≡ (good && r) → Tested w k more (i + 1)
+  tested-next more lt test em =
+      record { within = omega arith; todo = so .todo ∙ rw (all-next 0 letter w i (omega arith), em, test) (joined good (letter (getD w i 0)) (all letter (drop (i + 1) w))) }
 
-module _ (w : List ℕ) (k i : ℕ) (r : Bool) (so : AllFrom letter w k i) (far : i + 4 ≤ k) (test : r ≡ fourFrom w i) (long : length w ≡ k) where
-  next : (j j′ : ℕ) → j + 1 ≡ j′ → j < k → all letter (drop j w) ≡ (letter (getD w j 0) && all letter (drop j′ w))
-  next j j′ e lt =
-      let room : j < length w = omega arith in
-      all-next 0 letter w j room ∙ rw e
-
-  four-step : all letter w ≡ (r && all letter (drop (i + 4) w))
-  four-step =
-      let n0 : all letter (drop i w) ≡ (letter (getD w i 0) && all letter (drop (i + 1) w)) = next i (i + 1) refl (omega arith) in
-      let n1 : all letter (drop (i + 1) w) ≡ (letter (getD w (i + 1) 0) && all letter (drop (i + 2) w)) = next (i + 1) (i + 2) (omega arith) (omega arith) in
-      let n2 : all letter (drop (i + 2) w) ≡ (letter (getD w (i + 2) 0) && all letter (drop (i + 3) w)) = next (i + 2) (i + 3) (omega arith) (omega arith) in
-      let n3 : all letter (drop (i + 3) w) ≡ (letter (getD w (i + 3) 0) && all letter (drop (i + 4) w)) = next (i + 3) (i + 4) (omega arith) (omega arith) in
-      so .todo ∙ rw (n0, n1, n2, n3, test) (four-joined (letter (getD w i 0)) (letter (getD w (i + 1) 0)) (letter (getD w (i + 2) 0)) (letter (getD w (i + 3) 0)) (all letter (drop (i + 4) w)))
-
-  pub four-again : r ≡ true → AllFrom letter w k (i + 4)
-  four-again e = record { within = far; todo = four-step ∙ rw e }
-
-  pub four-fails : r ≡ false → false ≡ all letter w
-  four-fails e = sym (four-step ∙ rw e)
+pub tested-all : (w : List ℕ) (k i : ℕ) (good : Bool) → Tested w k good i → length w ≡ k → k ≤ i → good ≡ all letter w
+tested-all w k i good so long le = sym (so .todo ∙ rw (all-done 0 letter w i (omega arith)) (kept good))
 
 leb-minus : (a k n : ℕ) → k ≤ n → leb a (n - k) ≡ leb (a + k) n
 leb-minus a k n h = go (leb a (n - k)) refl

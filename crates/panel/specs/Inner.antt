@@ -11,10 +11,6 @@ use Rattle.image.specs.Inner.{Counted, Grouped}
 use Rattle.families.specs.Families.{sound5}
 use Rattle.panel.specs.Refusals.{lengthOk, letter, soundRecords, ownRows, lanesRising, hubRising, sound8}
 
--- letters i to i + 3 of a word
-abbrev pub fourFrom : List ℕ → ℕ → Bool
-fourFrom w i = letter (getD w i 0) && letter (getD w (i + 1) 0) && letter (getD w (i + 2) 0) && letter (getD w (i + 3) 0)
-
 -- the lane lists rise, and every global record names a lane
 pub record Ordered (s : List ℕ) (h : Header) : Type 0 where
   pub counted : Counted s h

@@ -12,7 +12,7 @@ ghost use Rattle.image.specs.Sizes.{mostPorts};
 ghost use Rattle.image.specs.Image.{entries, counts, portsOf, hub, noEntry};
 ghost use Rattle.image.specs.Inner.{Framed, Counted, Started, Stands};
 ghost use Rattle.panel.specs.Refusals.{lengthOk, sound4, letter, soundPlace, soundRecord, soundRecords, from, ownRow, ownRows, sound6, laneRising, lanesRising, hubRising, sound7, listed, sound8};
-ghost use Rattle.panel.specs.Inner.{fourFrom, Ordered};
+ghost use Rattle.panel.specs.Inner.{Ordered};
 
 // ---- 4
 
@@ -87,47 +87,18 @@ fn is_letter_at(image: &[u8], at: usize, k: usize, i: usize) -> bool
     is_letter(image[at + i])
 }
 
-// Letters i to i + 3.
-fn are_four(image: &[u8], at: usize, k: usize, i: usize) -> bool
-    requires { ⌜ (at + k ≤ length (now image)) × (i + 4 ≤ k) ⌝ }
-    ensures { λ r. ⌜ r ≡ fourFrom (take k (drop at (now (image .entry)))) i ⌝ }
-{
-    if is_letter_at(image, at, k, i) {
-        if is_letter_at(image, at, k, i + 1) {
-            if is_letter_at(image, at, k, i + 2) {
-                is_letter_at(image, at, k, i + 3)
-            } else {
-                false
-            }
-        } else {
-            false
-        }
-    } else {
-        false
-    }
-}
-
-// Four letters at a time, then one.
+// All of them are read: without a way out in between, many are tested at once.
 fn are_letters(image: &[u8], at: usize, k: usize) -> bool
     requires { ⌜ (at + k ≤ length (now image)) ⌝ }
     ensures { λ r. ⌜ r ≡ all letter (take k (drop at (now (image .entry)))) ⌝ }
 {
+    let mut good = true;
     let mut i = 0;
-    while 4 <= k - i {
-        if are_four(image, at, k, i) {
-            i += 4;
-        } else {
-            return false;
-        }
-    }
     while i < k {
-        if is_letter_at(image, at, k, i) {
-            i += 1;
-        } else {
-            return false;
-        }
+        good = ground::both(good, is_letter_at(image, at, k, i));
+        i += 1;
     }
-    true
+    good
 }
 
 // Whether a record names a lane and ends in it; no sum that could wrap.

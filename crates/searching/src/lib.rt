@@ -12,6 +12,7 @@ ghost use Rattle.search.specs.Rooms.{frameWidth, slotWidth};
 ghost use Rattle.search.specs.Run.{walk};
 ghost use Rattle.search.specs.Answers.{Rooms, refusedSearch, searchAnswer, searchRooms};
 ghost use Rattle.kept.specs.Inner.{Tidy, Ready, noHolding};
+ghost use Rattle.landings.specs.Inner.{Known};
 ghost use Rattle.walks.specs.Inner.{assigned, toGo, Walking};
 ghost use Rattle.searching.specs.Inner.{scoreRefusal, markedWith, Few, Marked, Settled, Entered, Onward, Ended, Sown, standingWith, Framable, Lent, noneCounted, repliedAs, answerIn, roomsIn, answerOn, roomsOn};
 use evaluate::Segment;
@@ -216,6 +217,7 @@ fn run(
     image: &[u8],
     h: image::Header,
     starts: &[usize; 4096],
+    memo: &mut [usize; landings::MEMO],
     b: SearchBudget,
     v: usize,
     scores: &[f64],
@@ -225,7 +227,7 @@ fn run(
     from: Standing,
     first: Account,
 ) -> Found
-    requires { ⌜ Accepted (now image) h × Started (now image) h (now starts) ⌝ }
+    requires { ⌜ Accepted (now image) h × Started (now image) h (now starts) × Known (now image) h (now memo) ⌝ }
     requires { ⌜ Walking (now image) h b (now frames) (from .tally) (from .depth) (from .start) (from .clear) ⌝ }
     requires { ⌜ Onward (panelOf (now image)) b v (now scores) (toGo (panelOf (now image)) b (from .tally) (now frames) (from .depth)) first (now kept) (now «kept_scores») ⌝ }
     ensures { λ r. ⌜ Ended (panelOf (now (image .entry))) b v (now (scores .entry)) (now (frames .entry)) (now (kept .entry)) (now («kept_scores» .entry)) (now (frames .exit)) (now (kept .exit)) (now («kept_scores» .exit)) r ⌝ }
@@ -233,7 +235,7 @@ fn run(
     let mut at = from;
     let mut account = first;
     loop {
-        let pause = walks::go_on(image, h, starts, b, frames, at);
+        let pause = walks::go_on(image, h, starts, memo, b, frames, at);
         at = pause.at;
         let halt = pause.halt;
         match halt {
@@ -375,6 +377,7 @@ fn search_families(
     image: &[u8],
     h: image::Header,
     starts: &[usize; 4096],
+    memo: &mut [usize; landings::MEMO],
     b: SearchBudget,
     v: usize,
     scores: &[f64],
@@ -383,7 +386,7 @@ fn search_families(
     kept_scores: &mut [f64],
     first: Account,
 ) -> Found
-    requires { ⌜ Accepted (now image) h × Started (now image) h (now starts) ⌝ }
+    requires { ⌜ Accepted (now image) h × Started (now image) h (now starts) × Known (now image) h (now memo) ⌝ }
     requires { ⌜ Framable b (now frames) ⌝ }
     requires { ⌜ Onward (panelOf (now image)) b v (now scores) (walk (panelOf (now image)) b) first (now kept) (now «kept_scores») ⌝ }
     ensures { λ r. ⌜ Ended (panelOf (now (image .entry))) b v (now (scores .entry)) (now (frames .entry)) (now (kept .entry)) (now («kept_scores» .entry)) (now (frames .exit)) (now (kept .exit)) (now («kept_scores» .exit)) r ⌝ }
@@ -412,6 +415,7 @@ fn search_families(
         image,
         h,
         starts,
+        memo,
         b,
         v,
         scores,
@@ -522,12 +526,14 @@ fn search_in(
 {
     let optima = b.max_optima as usize;
     let starts = image::lane_starts(image, h);
+    let mut memo = landings::no_memo();
     kept::begin(kept, kept_scores, optima, v);
     let first = none_yet();
     let f = search_families(
         image,
         h,
         &starts,
+        &mut memo,
         b,
         v,
         scores,

@@ -1,8 +1,9 @@
 -- How each way through a turn of the walk keeps what it keeps to.
-use Prim.Native.Nat.{ℕ, zero, suc, _+_, _-_, _*_, _≤_, _<_}
+use Prim.Native.Nat.{ℕ, zero, suc, _+_, _-_, _*_, _≤_, _<_, min}
 use native.Mathlib.Nat.{not-suc-le-zero, eq-or-lt-of-le}
 use native.Mathlib.Numerals.{add-one}
 use native.Mathlib.Omega.{arith}
+use native.Mathlib.Decide.{ℕ-discrete}
 use mathlib.Core.Path.{_≡_, refl, sym, ap, ap₂, _∙_}
 use mathlib.Core.Bool.{Bool, true, false, not, _&&_}
 use mathlib.Core.Logic.{_⊎_, inl, inr}
@@ -10,13 +11,17 @@ use mathlib.Core.List.{List, [], _∷_, _++_, append-nil, append-assoc}
 use lib.Dec.{leb, ltb, eqb}
 use lib.ListN.{length, take, drop, getD, replicate, length-append, length-replicate}
 use lib.Seq.{length-take-le}
-use borrow.Author.Tests.{le-leb, lt-leb, lt-ltb, le-ltb}
+use mir.Val.{Fits}
+use mir.Syntax.{w64}
+use borrow.Author.Needs.{fits-under}
+use borrow.Author.Tests.{le-leb, lt-leb, lt-ltb, le-ltb, leb-true}
 use Rattle.ground.specs.Lists.{pick, sum}
+use Rattle.storage.specs.Records.{noPort}
 use Rattle.image.specs.declared.Header.{Header}
 use Rattle.image.specs.declared.Family.{Family}
 use Rattle.image.specs.declared.Lane.{Lane}
-use Rattle.image.specs.Image.{pathCounts, pathsOf, entries, counts, startOf, noEntry}
-use Rattle.image.specs.Inner.{Started, Grouped, Groups}
+use Rattle.image.specs.Image.{pathCounts, pathsOf, portsOf, entries, counts, startOf, noEntry}
+use Rattle.image.specs.Inner.{Started, Stands, Grouped, Groups}
 use Rattle.image.specs.Panel.{Panel, panelOf, pathsAt}
 use Rattle.panel.specs.Inner.{Accepted}
 use Rattle.evaluate.specs.declared.Segment.{Segment}
@@ -27,23 +32,23 @@ use Rattle.search.specs.declared.SearchBudget.{SearchBudget}
 use Rattle.search.specs.declared.Tally.{Tally}
 use Rattle.search.specs.declared.Stop.{Stop}
 use Rattle.search.specs.declared.Stop.the-variants.{Exhausted, Work, Evaluation, Frontier}
-use Rattle.search.specs.Walk.{Place, Frame, Doing, pass, down, give, Act, leave, doing, enter, unitOf, takesMember}
+use Rattle.search.specs.Walk.{Place, Frame, Doing, pass, down, give, Act, leave, doing, enter, behind, unitOf, takesMember}
 use Rattle.search.specs.Run.{Walk, Walked, Phase, going, ended, Ending, exhausted, onWork, onEvaluation, onFrontier, limitsOf, root, stacked, begin, spend, handed, doneWith, left, afterAct, run}
 use Rattle.search.specs.Rooms.{frameWidth, placeWords, frameWords, stackWords, pendingWords, framesLeft}
 use Rattle.frames.specs.declared.Stored.{Stored}
 use Rattle.frames.specs.Inner.{Path, noPath, noSegment, longer, pathTo, pathAt, storedAt, placeWith, frameWith, put, frameOf, stackOf, Linked, Alike}
-use Rattle.frames.proofs.Laws.{put-again, length-put, drop-put, stored-same, stored-below, path-at, stack-none, stack-top, stack-above, stack-retop, stack-root, stack-push, length-stack, frame-below, frame-push, frame-retop, frame-root, alike-below, alike-path, linked-less, linked-root, linked-push, linked-retop, stack-suc, take-words}
+use Rattle.frames.proofs.Laws.{put-again, length-put, drop-put, stored-same, stored-below, path-at, stack-none, stack-top, stack-above, stack-retop, stack-root, stack-push, length-stack, frame-below, frame-push, frame-retop, frame-root, alike-below, alike-path, linked-less, linked-root, linked-push, linked-retop, stack-suc, take-words, put-stored}
 use Rattle.landings.specs.declared.Landing.{Landing}
 use Rattle.advance.specs.declared.Action.{Action}
 use Rattle.advance.specs.declared.Action.the-variants.{Leave, Pass, Down, Give}
 use Rattle.advance.specs.declared.Turn.{Turn}
-use Rattle.advance.specs.Inner.{movedTo, On, childOf, entered, Sound, Child, Flagged, taskOf, actOf, Turned, Ready, Moved}
-use Rattle.advance.proofs.Laws.{hub-member, meets-blocked, enter-child, enter-alike, enter-sound, enter-shut, paths-are, path-named, path-some}
+use Rattle.advance.specs.Inner.{movedTo, On, childOf, entered, Sound, Child, Flagged, taskOf, actOf, Turned, Ready, Moved, leadsOn, Blocked, Past}
+use Rattle.advance.proofs.Laws.{count-here, hub-member, hub-close, meets-blocked, blocked-start, blocked-same, blocked-past, past-alike, past-turned, enter-child, enter-alike, enter-sound, enter-shut, paths-are, path-named, path-some}
 use Rattle.walks.specs.declared.Standing.{Standing}
 use Rattle.walks.specs.declared.Halt.{Halt}
 use Rattle.walks.specs.declared.Halt.the-variants.{Stopped, Due}
 use Rattle.walks.specs.declared.Pause.{Pause}
-use Rattle.walks.specs.Inner.{spentOf, handedOf, doneOf, walkOf, gone, toGo, handing, before, endingOf, assigned, haltedAs, rootOf, Held, Walking, Kept, usedBy, Paused, zeroed, tookOf, Skipped, Passed}
+use Rattle.walks.specs.Inner.{spentOf, handedOf, doneOf, walkOf, gone, toGo, handing, before, endingOf, assigned, haltedAs, rootOf, Held, Walking, Kept, usedBy, Paused, zeroed, tookOf, workedOf, Under, Stuck, Further, Passed}
 use Rattle.walks.proofs.Steps.{run-after, run-ended, to-go-some, to-go-work, to-go-evaluation, to-go-act}
 
 -- ---- the room
@@ -417,39 +422,301 @@ module _ (s : List ℕ) (h : Header) (b : SearchBudget) (family : Family) (start
         let takes : t .donors + suc m + 1 ≡ t .donors + suc (suc m) = omega arith in
         rw (same, put-again xs (d - 1) (with-fewer (suc m)) (movedTo (with-fewer (suc m)) (with-fewer (suc m) .next) (with-fewer (suc m) .«hub_next» + 1) (with-fewer (suc m) .«hub_end»)) top-fits, next, works, takes) at one
 
-  pub over-going : (xs ys : List ℕ) (t u : Tally) (d : ℕ) (flag : Bool) → Going s h b family start xs₀ t₀ d₀ xs t d flag → (d ≡ 0 → ⊥) → t .evaluations < b .«max_evaluations» → Passed b flag xs ys (d - 1) t u
-      → Going s h b family start xs₀ t₀ d₀ ys u d flag
-  over-going xs ys t u d flag g n le q = go (q .how)
-    where
-      go : ((ys ≡ xs) × (u ≡ t)) ⊎ ((m : ℕ) × Skipped b flag xs ys (d - 1) t u m) → Going s h b family start xs₀ t₀ d₀ ys u d flag
-      go (inl e) = rw (e .0, e .1) g
-      go (inr (zero, k)) = let z = k .some in absurd (omega arith)
-      go (inr (suc m, k)) =
-          let under = q .under in
-          let work : u .work ≡ t .work + suc m = ap (λ (v : Tally). v .work) (k .tally) in
-          let off = rw (k .off) at g in
-          rw (k .off, k .room, k .tally) (many-over xs t d off n le (k .term) m (k .few) (omega arith))
+  -- what is left after members and ports are passed over
+  pub over-going : (xs ys : List ℕ) (t u : Tally) (d : ℕ) (flag : Bool) → Going s h b family start xs₀ t₀ d₀ xs t d flag → Passed s h b xs ys t u d flag → Going s h b family start xs₀ t₀ d₀ ys u d flag
+  over-going xs ys t u d flag g q =
+      let c : getD (pathCounts h s) (t .families) 0 ≡ family .count = ap (λ (n : ℕ). getD (pathCounts h s) n 0) (g .same) ∙ sym (g .groups .count) in
+      record {
+        total = g .total ∙ q .total;
+        held = rw c at (q .held);
+        kept = kept-on (g .kept) (q .kept);
+        same = q .families ∙ g .same;
+        groups = g .groups;
+        more = let m = g .more in let o = q .more in omega arith;
+        begins = rw (q .families) (g .begins);
+      }
 
-pub passed-none : (b : SearchBudget) (flag : Bool) (xs : List ℕ) (top : ℕ) (t : Tally) → t .work < b .«max_work» → Passed b flag xs xs top t t
-passed-none b flag xs top t l = record { how = inl (refl, refl); under = l; more = omega arith; same = refl; long = refl }
+  pub under-of : (xs : List ℕ) (t : Tally) (d : ℕ) (flag : Bool) → Going s h b family start xs₀ t₀ d₀ xs t d flag → (d ≡ 0 → ⊥) → t .work < b .«max_work» → t .evaluations < b .«max_evaluations» → Under s h b xs t d flag
+  under-of xs t d flag g n lw le =
+      let c : family .count ≡ getD (pathCounts h s) (t .families) 0 = g .groups .count ∙ ap (λ (n : ℕ). getD (pathCounts h s) n 0) (sym (g .same)) in
+      let e = g .same in
+      let o = g .groups .family in
+      record { held = rw c at (g .held); some = omega arith; family = omega arith; work = lw; evaluations = le }
 
-pub passed-some : (b : SearchBudget) (flag : Bool) (xs ys : List ℕ) (top : ℕ) (t r : Tally) (f : Stored) (m : ℕ) → flag ≡ false → f ≡ storedAt xs top → f .terminal ≡ false → (m ≡ 0 → ⊥) → f .«hub_next» < f .«hub_end»
-    → m ≤ f .«hub_end» - f .«hub_next» → m ≤ b .«max_work» - t .work - 1 → t .work < b .«max_work» → ys ≡ put xs top (movedTo f (f .next) (f .«hub_next» + m) (f .«hub_end»)) → r ≡ tookOf t m → Passed b flag xs ys top t r
-passed-some b flag xs ys top t r f m off ef term some lt few under l ey er =
-    record {
-      how = inr (m, record { off = off; term = rw (← ef) term; some = omega arith; few = rw (← ef) (omega arith); room = rw (← ef) ey; tally = er });
-      under = rw er (omega arith);
-      more = rw er (omega arith);
-      same = rw er;
-      long = rw ey (length-put xs top (movedTo f (f .next) (f .«hub_next» + m) (f .«hub_end»)));
-    }
+pub passed-none : (s : List ℕ) (h : Header) (b : SearchBudget) (xs : List ℕ) (t : Tally) (d : ℕ) (flag : Bool) → Under s h b xs t d flag → Passed s h b xs xs t t d flag
+passed-none s h b xs t d flag u = record { total = refl; held = u .held; kept = kept-refl b xs; under = u .work; more = omega arith; same = refl; families = refl }
 
-module _ (b : SearchBudget) (flag : Bool) (xs ys : List ℕ) (top : ℕ) (t v : Tally) (q : Passed b flag xs ys top t v) where
+module _ (s : List ℕ) (h : Header) (b : SearchBudget) (xs ys : List ℕ) (t v : Tally) (d : ℕ) (flag : Bool) (q : Passed s h b xs ys t v d flag) where
   pub over-evaluations : t .evaluations < b .«max_evaluations» → v .evaluations < b .«max_evaluations»
   over-evaluations l = rw (q .same) l
 
   pub over-less : (u : Tally) (k : ℕ) → u ≡ spentOf v k → b .«max_work» - u .work < b .«max_work» - t .work
   over-less u k e = let m = q .more in let l = q .under in rw e (omega arith)
+
+-- ---- ports passed over at once
+
+-- the family that the counters name
+abbrev pub familyAt : List ℕ → Header → Tally → Family
+familyAt s h t = record { number = t .families; start = sum (take (t .families) (pathCounts h s)); count = getD (pathCounts h s) (t .families) 0 }
+
+-- the frame f in place of the top, its ports ahead all blocked, and the counters t
+pub record Striding (s : List ℕ) (h : Header) (b : SearchBudget) (xs : List ℕ) (t₀ : Tally) (d : ℕ) (l : Lane) (f : Stored) (t : Tally) : Type 0 where
+  pub going : Going s h b (familyAt s h t₀) (sum (take (t₀ .families) (pathCounts h s))) xs t₀ d (put xs (d - 1) f) t d false
+  pub alike : Alike f (storedAt xs (d - 1))
+  pub begun : f .terminal ≡ false
+  pub here : l .number ≡ f .source
+  pub blocked : Blocked s h l (pathAt xs (d - 1)) f
+  pub under : t .work < b .«max_work»
+  pub same : t .evaluations ≡ t₀ .evaluations
+  pub least : t₀ .evaluations < b .«max_evaluations»
+  pub some : 0 < d
+  pub room : (d - 1 + 1) * frameWidth ≤ length xs
+
+tally-same : (t : Tally) → tookOf t 0 ≡ t
+tally-same t =
+    let a : t .work + 0 ≡ t .work = omega arith in
+    let c : t .donors + 0 ≡ t .donors = omega arith in
+    λ i. record { work = a i; evaluations = t .evaluations; natives = t .natives; donors = c i; «non_native» = t .«non_native»; mixed = t .mixed; «mixed_identity» = t .«mixed_identity»; switches = t .switches; families = t .families }
+
+spent-none : (t : Tally) → spentOf t 0 ≡ workedOf t 1
+spent-none t =
+    let c : t .donors + 0 ≡ t .donors = omega arith in
+    λ i. record { work = t .work + 1; evaluations = t .evaluations; natives = t .natives; donors = c i; «non_native» = t .«non_native»; mixed = t .mixed; «mixed_identity» = t .«mixed_identity»; switches = t .switches; families = t .families }
+
+worked-twice : (t : Tally) → workedOf (workedOf t 1) 1 ≡ workedOf t 2
+worked-twice t =
+    let a : t .work + 1 + 1 ≡ t .work + 2 = omega arith in
+    λ i. record { work = a i; evaluations = t .evaluations; natives = t .natives; donors = t .donors; «non_native» = t .«non_native»; mixed = t .mixed; «mixed_identity» = t .«mixed_identity»; switches = t .switches; families = t .families }
+
+frame-same : (f : Stored) → f .terminal ≡ false → movedTo f (f .next) (f .«hub_next» + 0) (f .«hub_end») ≡ f
+frame-same f e =
+    let a : f .«hub_next» + 0 ≡ f .«hub_next» = omega arith in
+    λ i. record { slot = f .slot; source = f .source; cut = f .cut; reverse = f .reverse; terminal = sym e i; next = f .next; «hub_next» = a i; «hub_end» = f .«hub_end»; start = f .start; end = f .end }
+
+module _ (s : List ℕ) (h : Header) (b : SearchBudget) (xs : List ℕ) (t₀ : Tally) (d : ℕ) (l : Lane) (acc : Accepted s h) (st : Stands s h l) where
+  pub stride-start : (f : Stored) → Stuck s h b xs t₀ d l f → Striding s h b xs t₀ d l f t₀
+  stride-start f k =
+      let u = k .under in
+      let r : (d - 1 + 1) * frameWidth ≤ length xs = (let a = u .held .room in let c = u .held .deep in let o = u .some in omega arith) in
+      let back : d - 1 + 1 ≡ d = (let o = u .some in omega arith) in
+      let same : put xs (d - 1) f ≡ xs = rw (k .top) (put-stored xs (d - 1) r (rw (← back) at (u .held .linked))) in
+      record {
+        going =
+            rw same
+            (record {
+              total = refl;
+              held = u .held;
+              kept = kept-refl b xs;
+              same = refl;
+              groups = record { grouped = acc .grouped; family = u .family; count = refl; start = refl };
+              more = omega arith;
+              begins = refl;
+            });
+        alike = rw (k .top) (record { slot = refl; source = refl; reverse = refl; start = refl; end = refl });
+        begun = k .begun;
+        here = k .here;
+        blocked = k .blocked;
+        under = u .work;
+        same = refl;
+        least = u .evaluations;
+        some = u .some;
+        room = r;
+      }
+
+  module _ (f : Stored) (t : Tally) (k : Striding s h b xs t₀ d l f t) where
+    top-is : storedAt (put xs (d - 1) f) (d - 1) ≡ f
+    top-is = stored-same xs (d - 1) f (k .room)
+
+    not-none : d ≡ 0 → ⊥
+    not-none e = let o = k .some in omega arith
+
+    evaluations-on : t .evaluations < b .«max_evaluations»
+    evaluations-on = rw (k .same) (k .least)
+
+    -- so many members of the open hub
+    pub stride-members : (m : ℕ) (g : Stored) (u : Tally) → m ≤ f .«hub_end» - f .«hub_next» → m ≤ b .«max_work» - t .work - 1 → g ≡ movedTo f (f .next) (f .«hub_next» + m) (f .«hub_end») → u ≡ tookOf t m
+        → Striding s h b xs t₀ d l g u
+    stride-members zero g u few most eg eu = rw (eg, eu, frame-same f (k .begun), tally-same t) k
+    stride-members (suc m) g u few most eg eu =
+        let over = many-over s h b (familyAt s h t₀) (sum (take (t₀ .families) (pathCounts h s))) xs t₀ d acc (put xs (d - 1) f) t d (k .going) not-none evaluations-on (ap (λ (x : Stored). x .terminal) top-is ∙ k .begun) m
+        (rw top-is (let lw = k .under in omega arith)) (let lw = k .under in omega arith) in
+        let again = put-again xs (d - 1) f (movedTo f (f .next) (f .«hub_next» + suc m) (f .«hub_end»)) (k .room) in
+        rw (eg, eu)
+        (record {
+          going = rw (top-is, again) at over;
+          alike = record { slot = k .alike .slot; source = k .alike .source; reverse = k .alike .reverse; start = k .alike .start; end = k .alike .end };
+          begun = refl;
+          here = k .here;
+          blocked = blocked-same s h l (pathAt xs (d - 1)) f acc st (k .here) (f .«hub_next» + suc m) (f .«hub_end») (k .blocked);
+          under = let lw = k .under in omega arith;
+          same = k .same;
+          least = k .least;
+          some = k .some;
+          room = k .room;
+        })
+
+    top-sound : Sound s h (familyAt s h t₀ .count) f
+    top-sound = rw top-is at (k .going .held .sound (d - 1) (let o = k .some in omega arith))
+
+    here-path : pathAt (put xs (d - 1) f) (d - 1) ≡ pathAt xs (d - 1)
+    here-path = path-at xs (d - 1) f (k .room) (k .alike)
+
+    top-on : On s h (familyAt s h t₀) l (put xs (d - 1) f) (d - 1) f
+    top-on = record { accepted = acc; groups = k .going .groups; stands = st; here = k .here; sound = top-sound; room = rw (length-put xs (d - 1) f) (k .room) }
+
+    -- one unit that passes
+    pass-once : (g : Stored) → Turned s h (familyAt s h t₀) (pathAt (put xs (d - 1) f) (d - 1)) f (record { action = Pass; frame = g; taken = 0; clear = false }) → t .work + 2 ≤ b .«max_work» → Alike g f → g .terminal ≡ false
+        → Blocked s h l (pathAt xs (d - 1)) g → Striding s h b xs t₀ d l g (workedOf t 1)
+    pass-once g turned work alike begun blocked =
+        let u : spentOf t 0 ≡ workedOf t 1 = spent-none t in
+        let on = by-pass s h b (familyAt s h t₀) (sum (take (t₀ .families) (pathCounts h s))) xs t₀ d (put xs (d - 1) f) t d false (put (put xs (d - 1) f) (d - 1) g) (spentOf t 0)
+        (record { action = Pass; frame = g; taken = 0; clear = false }) (k .going) not-none (k .under) evaluations-on (record { turned = rw top-is turned; room = refl }) refl acc refl in
+        record {
+          going = rw (put-again xs (d - 1) f g (k .room), u) at on;
+          alike =
+              record {
+                slot = alike .slot ∙ k .alike .slot;
+                source = alike .source ∙ k .alike .source;
+                reverse = alike .reverse ∙ k .alike .reverse;
+                start = alike .start ∙ k .alike .start;
+                end = alike .end ∙ k .alike .end;
+              };
+          begun = begun;
+          here = k .here ∙ sym (alike .source);
+          blocked = blocked;
+          under = omega arith;
+          same = k .same;
+          least = k .least;
+          some = k .some;
+          room = k .room;
+        }
+
+    -- the next port, where no hub is open
+    one-past : (g : Stored) → Past s h l f g → f .«hub_end» ≡ 0 → 0 < f .next → f .next ≤ l .count → t .work + 2 ≤ b .«max_work» → Striding s h b xs t₀ d l g (workedOf t 1)
+    one-past g p none some few work =
+        let alike = past-alike s h l f g p in
+        pass-once g (past-turned s h (familyAt s h t₀) l (put xs (d - 1) f) (d - 1) f top-on (k .begun) none some few g p (rw here-path (k .blocked))) work (alike .0) (alike .1)
+        (blocked-past s h l (pathAt xs (d - 1)) f acc st (k .here) g p (k .blocked))
+
+    -- a used-up hub is closed
+    closed-hub : (f .«hub_end» ≡ 0 → ⊥) → f .«hub_end» ≤ f .«hub_next» → t .work + 2 ≤ b .«max_work» → Striding s h b xs t₀ d l (movedTo f (f .next) 0 0) (workedOf t 1)
+    unfolding frameOf
+    closed-hub some used work =
+        let knows : Flagged (panelOf s) (frameWith (pathAt (put xs (d - 1) f) (d - 1)) f) false = rw top-is at (k .going .held .flagged (k .some)) in
+        pass-once (movedTo f (f .next) 0 0) (hub-close s h (familyAt s h t₀) l (put xs (d - 1) f) (d - 1) f false (movedTo f (f .next) 0 0) top-on (k .begun) some knows false used refl) work
+        (record { slot = refl; source = refl; reverse = refl; start = refl; end = refl }) refl (blocked-same s h l (pathAt xs (d - 1)) f acc st (k .here) 0 0 (k .blocked))
+
+  -- the next port, a used-up hub being closed first
+  pub stride-past : (f : Stored) (t : Tally) (n : ℕ) (g : Stored) (u : Tally) → Striding s h b xs t₀ d l f t → Further b l f t → f .«hub_end» ≤ f .«hub_next» → n ≡ pick (ltb 0 (f .«hub_end»)) 1 0 → Past s h l f g
+      → u ≡ workedOf t (n + 1) → Striding s h b xs t₀ d l g u
+  stride-past f t n g u k e used en p eu = go (ℕ-discrete (f .«hub_end») 0)
+    where
+      go : Dec (f .«hub_end» ≡ 0) → Striding s h b xs t₀ d l g u
+      go (yes z) =
+          let w = e .work in
+          let shut : ltb 0 (f .«hub_end») ≡ false = le-ltb 0 (f .«hub_end») (omega arith) in
+          let one : n + 1 ≡ 1 = rw (en, shut) in
+          rw (eu, one) (one-past f t k g p z (e .some) (e .few) (omega arith))
+      go (no z) =
+          let w = e .work in
+          let some : ltb 0 (f .«hub_end») ≡ true = lt-ltb 0 (f .«hub_end») (omega arith) in
+          let two : n + 1 ≡ 2 = rw (en, some) in
+          let c = closed-hub f t k z used (omega arith) in
+          let v : workedOf (workedOf t 1) 1 ≡ workedOf t 2 = worked-twice t in
+          rw (eu, two, ← v) (one-past (movedTo f (f .next) 0 0) (workedOf t 1) c g (record { how = p .how }) refl (e .some) (e .few) (omega arith))
+
+  -- the members that the open hub has left, as far as work leads
+  module _ (f : Stored) (t : Tally) (k : Striding s h b xs t₀ d l f t) (x m : ℕ) (g : Stored) (u : Tally) (ex : x ≡ f .«hub_end» - f .«hub_next») (em : m ≡ min x (b .«max_work» - t .work - 1))
+      (eg : g ≡ movedTo f (f .next) (f .«hub_next» + m) (f .«hub_end»)) (eu : u ≡ tookOf t m) where
+    pub stride-turn : Striding s h b xs t₀ d l g u
+    stride-turn = stride-members f t k m g u (omega arith) (omega arith) eg eu
+
+    pub turn-less : (n : ℕ) (v : Tally) → v ≡ workedOf u (n + 1) → Further b l g u → b .«max_work» - v .work < b .«max_work» - t .work
+    turn-less n v ev e =
+        let w = e .work in
+        let c : u .work ≡ t .work + m = rw eu in
+        let z : v .work ≡ u .work + (n + 1) = rw ev in
+        omega arith
+
+    -- where work is left behind them, no member is
+    pub stride-next : (n : ℕ) (r : Stored) (v : Tally) → Further b l g u → n ≡ pick (ltb 0 (g .«hub_end»)) 1 0 → Past s h l g r → v ≡ workedOf u (n + 1) → Striding s h b xs t₀ d l r v
+    stride-next n r v e en p ev =
+        let w : t .work + m + 3 ≤ b .«max_work» = rw eu at (e .work) in
+        let used : g .«hub_end» ≤ g .«hub_next» = rw eg (omega arith) in
+        stride-past g u n r v stride-turn e used en p ev
+
+  pub strode : (f : Stored) (t : Tally) (ys : List ℕ) → Striding s h b xs t₀ d l f t → ys ≡ put xs (d - 1) f → Passed s h b xs ys t₀ t d false
+  strode f t ys k ey =
+      rw ey
+      (record {
+        total = k .going .total;
+        held = k .going .held;
+        kept = k .going .kept;
+        under = k .under;
+        more = k .going .more;
+        same = k .same;
+        families = k .going .same;
+      })
+
+pub not-further : (b : SearchBudget) (l : Lane) (f : Stored) (t : Tally) → false ≡ true → Further b l f t
+not-further b l f t e = let z : _≡_ {A = ℕ} 0 1 = cc in absurd (omega arith)
+
+pub further : (b : SearchBudget) (l : Lane) (f : Stored) (t : Tally) → 3 ≤ b .«max_work» - t .work → (f .next ≡ 0 → ⊥) → leb (f .next) (l .count) ≡ true → Further b l f t
+further b l f t w n e = record { work = omega arith; some = omega arith; few = leb-true (f .next) (l .count) e }
+
+pub close-some : (n : ℕ) → 0 < n → _≡_ {A = ℕ} 1 (pick (ltb 0 n) 1 0)
+close-some n h = rw (lt-ltb 0 n h)
+
+pub close-none : (n : ℕ) → n ≤ 0 → _≡_ {A = ℕ} 0 (pick (ltb 0 n) 1 0)
+close-none n h = rw (le-ltb 0 n h)
+
+pub least-left : (x y m : ℕ) → m ≡ min x y → m ≤ x
+least-left x y m e = omega arith
+
+pub least-right : (x y m : ℕ) → m ≡ min x y → m ≤ y
+least-right x y m e = omega arith
+
+pub fewer-none : (f : Stored) (m : ℕ) → m ≡ 0
+    → _≡_ {A = Stored} (record { slot = f .slot; source = f .source; cut = f .cut; reverse = f .reverse; terminal = false; next = f .next; «hub_next» = f .«hub_next»; «hub_end» = f .«hub_end»; start = f .start; end = f .end })
+    (movedTo f (f .next) (f .«hub_next» + m) (f .«hub_end»))
+fewer-none f m e = let a : f .«hub_next» ≡ f .«hub_next» + m = omega arith in rw (← a)
+
+pub close-fits : (n : ℕ) → n ≤ 1 → Fits w64 (n + 1)
+close-fits n e = let z : n + 1 < 3 = omega arith in fits-under w64 (n + 1) 3 z tt
+
+-- ---- the top that is passed over
+
+module _ (s : List ℕ) (h : Header) (b : SearchBudget) (xs : List ℕ) (t : Tally) (d : ℕ) (flag : Bool) (u : Under s h b xs t d flag) where
+  pub under-room : (d - 1 + 1) * frameWidth ≤ length xs
+  under-room = let r = u .held .room in let e = u .held .deep in let o = u .some in omega arith
+
+  module _ (f : Stored) (ef : f ≡ storedAt xs (d - 1)) where
+    under-sound : Sound s h (getD (pathCounts h s) (t .families) 0) f
+    under-sound = rw ef (u .held .sound (d - 1) (let o = u .some in omega arith))
+
+    pub under-lane : f .source < h .lanes
+    under-lane = under-sound .lane
+
+    module _ (l : Lane) (some : f .«hub_end» ≡ 0 → ⊥) (acc : Accepted s h) (st : Stands s h l) (here : l .number ≡ f .source) where
+      pub under-behind : behind (f .reverse) (f .next) < l .count
+      under-behind = let c = count-here s h l f acc st here in let o = under-sound .opened (omega arith) in omega arith
+
+      pub under-second : f .reverse ≡ false → 2 ≤ f .next
+      under-second = under-sound .second (omega arith)
+
+      under-flag : flag ≡ false → Flagged (panelOf s) (frameWith (pathAt xs (d - 1)) f) false
+      unfolding frameOf
+      under-flag off = rw (ef, ← off) (u .held .flagged (u .some))
+
+      pub stuck-of : (r : Bool) → flag ≡ false → f .terminal ≡ false → r ≡ leadsOn (h .k) f (getD (portsOf h s (l .number)) (behind (f .reverse) (f .next)) noPort) → r ≡ true → Stuck s h b xs t d l f
+      stuck-of r off begun er it =
+          record {
+            under = rw off at u;
+            top = ef;
+            here = here;
+            begun = begun;
+            blocked = blocked-start s h l (pathAt xs (d - 1)) f acc st here under-behind some (under-flag off) (sym er ∙ it);
+          }
 
 -- ---- the ways out
 

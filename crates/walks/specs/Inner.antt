@@ -2,12 +2,12 @@
 use Prim.Native.Nat.{ℕ, zero, suc, _+_, _-_, _*_, _≤_, _<_}
 use mathlib.Core.Path.{_≡_}
 use mathlib.Core.Bool.{Bool, true, false}
-use mathlib.Core.Logic.{_⊎_}
 use mathlib.Core.List.{List, [], _∷_, _++_}
 use lib.ListN.{length, take, drop, getD, replicate}
 use Rattle.ground.specs.Lists.{sum}
 use Rattle.image.specs.declared.Header.{Header}
 use Rattle.image.specs.declared.Family.{Family}
+use Rattle.image.specs.declared.Lane.{Lane}
 use Rattle.image.specs.Image.{pathCounts}
 use Rattle.image.specs.Panel.{Panel, panelOf, pathsAt}
 use Rattle.evaluate.specs.declared.Segment.{Segment}
@@ -22,7 +22,7 @@ use Rattle.search.specs.Rooms.{frameWidth, stackWords, pendingWords}
 use Rattle.frames.specs.declared.Stored.{Stored}
 use Rattle.frames.specs.Inner.{put, noSegment, longer, pathAt, storedAt, placeWith, frameOf, stackOf, Linked}
 use Rattle.landings.specs.declared.Landing.{Landing}
-use Rattle.advance.specs.Inner.{movedTo, childOf, entered, Sound, Flagged}
+use Rattle.advance.specs.Inner.{childOf, entered, Sound, Flagged, Blocked}
 use Rattle.walks.specs.declared.Standing.{Standing}
 use Rattle.walks.specs.declared.Halt.{Halt}
 use Rattle.walks.specs.declared.Halt.the-variants.{Stopped, Due}
@@ -46,6 +46,11 @@ doneOf t =
 abbrev pub tookOf : Tally → ℕ → Tally
 tookOf t m =
     record { work = t .work + m; evaluations = t .evaluations; natives = t .natives; donors = t .donors + m; «non_native» = t .«non_native»; mixed = t .mixed; «mixed_identity» = t .«mixed_identity»; switches = t .switches; families = t .families }
+
+-- so many units more
+abbrev pub workedOf : Tally → ℕ → Tally
+workedOf t n =
+    record { work = t .work + n; evaluations = t .evaluations; natives = t .natives; donors = t .donors; «non_native» = t .«non_native»; mixed = t .mixed; «mixed_identity» = t .«mixed_identity»; switches = t .switches; families = t .families }
 
 -- ---- what is left to walk
 
@@ -136,24 +141,39 @@ pub record Paused (s : List ℕ) (h : Header) (b : SearchBudget) (xs ys : List �
       → take (usedBy e (r .at .depth) * frameWidth) ys ≡ stackWords (stackOf ys (r .at .depth)) ++ pendingWords (endingOf e (frameOf ys (r .at .depth) .place))
   pub deep : r .at .depth ≤ b .«max_frontier»
 
--- ---- members passed over
+-- ---- ports passed over
 
--- m members of the open hub of the frame at top, whose piece is not clear
-pub record Skipped (b : SearchBudget) (flag : Bool) (xs ys : List ℕ) (top : ℕ) (t r : Tally) (m : ℕ) : Type 0 where
-  pub off : flag ≡ false
-  pub term : storedAt xs top .terminal ≡ false
-  pub some : 0 < m
-  pub few : storedAt xs top .«hub_next» + m ≤ storedAt xs top .«hub_end»
-  pub room : ys ≡ put xs top (movedTo (storedAt xs top) (storedAt xs top .next) (storedAt xs top .«hub_next» + m) (storedAt xs top .«hub_end»))
-  pub tally : r ≡ tookOf t m
+-- a frame on the stack, and work and evaluations left
+pub record Under (s : List ℕ) (h : Header) (b : SearchBudget) (xs : List ℕ) (t : Tally) (d : ℕ) (flag : Bool) : Type 0 where
+  pub held : Held s h b (getD (pathCounts h s) (t .families) 0) xs t d flag
+  pub some : 0 < d
+  pub family : t .families < h .families
+  pub work : t .work < b .«max_work»
+  pub evaluations : t .evaluations < b .«max_evaluations»
 
--- none, or some
-pub record Passed (b : SearchBudget) (flag : Bool) (xs ys : List ℕ) (top : ℕ) (t r : Tally) : Type 0 where
-  pub how : ((ys ≡ xs) × (r ≡ t)) ⊎ ((m : ℕ) × Skipped b flag xs ys top t r m)
+-- the top is the frame f, on its lane, and its ports ahead are all blocked
+pub record Stuck (s : List ℕ) (h : Header) (b : SearchBudget) (xs : List ℕ) (t : Tally) (d : ℕ) (l : Lane) (f : Stored) : Type 0 where
+  pub under : Under s h b xs t d false
+  pub top : f ≡ storedAt xs (d - 1)
+  pub here : l .number ≡ f .source
+  pub begun : f .terminal ≡ false
+  pub blocked : Blocked s h l (pathAt xs (d - 1)) f
+
+-- a port is left, and work for it and for closing a hub
+pub record Further (b : SearchBudget) (l : Lane) (f : Stored) (t : Tally) : Type 0 where
+  pub work : t .work + 3 ≤ b .«max_work»
+  pub some : 0 < f .next
+  pub few : f .next ≤ l .count
+
+-- some units later: what is left is the same, and a unit is left
+pub record Passed (s : List ℕ) (h : Header) (b : SearchBudget) (xs ys : List ℕ) (t r : Tally) (d : ℕ) (flag : Bool) : Type 0 where
+  pub total : toGo (panelOf s) b t xs d ≡ toGo (panelOf s) b r ys d
+  pub held : Held s h b (getD (pathCounts h s) (t .families) 0) ys r d flag
+  pub kept : Kept b xs ys
   pub under : r .work < b .«max_work»
   pub more : t .work ≤ r .work
   pub same : r .evaluations ≡ t .evaluations
-  pub long : length ys ≡ length xs
+  pub families : r .families ≡ t .families
 
 -- ---- a walk that stopped
 

@@ -1,17 +1,20 @@
 // The budgeted walk over all families (search.rs, search): it goes on until a budget stops it, all is walked, or an evaluation is due.
 ghost use mathlib.Core.Path.{_≡_};
-ghost use Prim.Native.Nat.{_+_, _*_, _≤_, _<_};
+ghost use mathlib.Core.Bool.{true, false};
+ghost use Prim.Native.Nat.{_+_, _-_, _*_, _≤_, _<_, min};
+ghost use lib.Dec.{ltb};
 ghost use lib.ListN.{length, take};
-ghost use Rattle.ground.specs.Lists.{sum};
+ghost use Rattle.ground.specs.Lists.{pick, sum};
 ghost use Rattle.image.specs.Image.{pathCounts};
-ghost use Rattle.image.specs.Inner.{Started};
+ghost use Rattle.image.specs.Inner.{Started, Stands};
 ghost use Rattle.image.specs.Panel.{panelOf};
 ghost use Rattle.panel.specs.Inner.{Accepted};
 ghost use Rattle.search.specs.Rooms.{frameWidth};
 ghost use Rattle.search.specs.Counters.{statusOf, statusNumber};
 ghost use Rattle.frames.specs.Inner.{put};
+ghost use Rattle.landings.specs.Inner.{Known};
 ghost use Rattle.advance.specs.Inner.{movedTo};
-ghost use Rattle.walks.specs.Inner.{rootOf, spentOf, tookOf, handedOf, doneOf, Walking, Paused, Passed, pendingAt, usedBy, zeroed};
+ghost use Rattle.walks.specs.Inner.{rootOf, spentOf, tookOf, workedOf, handedOf, doneOf, Walking, Paused, Further, Under, Stuck, Passed, pendingAt, usedBy, zeroed};
 use advance::Action;
 use evaluate::Segment;
 use frames::Stored;
@@ -85,7 +88,7 @@ fn spent(b: SearchBudget, t: Tally, taken: u64) -> Tally
 }
 
 fn smaller(x: u64, y: u64) -> u64
-    ensures { λ r. ⌜ (r ≤ x) × (r ≤ y) ⌝ }
+    ensures { λ r. ⌜ r ≡ min x y ⌝ }
 {
     if x < y { x } else { y }
 }
@@ -102,44 +105,135 @@ fn took(t: Tally, m: u64) -> Tally
     }
 }
 
-// The top's open hub with m members fewer.
-fn skip(frames: &mut [u64], top: usize, f: Stored, m: u64)
-    requires { ⌜ ((top + 1) * frameWidth ≤ length (now frames)) × (f .«hub_next» + m ≤ f .«hub_end») ⌝ }
-    ensures { λ _. ⌜ now (frames .exit) ≡ put (now (frames .entry)) top (movedTo f (f .next) (f .«hub_next» + m) (f .«hub_end»)) ⌝ }
+// So many units more, that took none.
+fn worked(t: Tally, n: u64) -> Tally
+    requires { ⌜ t .work + n < 0x1_0000_0000_0000_0000 ⌝ }
+    ensures { λ r. ⌜ r ≡ workedOf t n ⌝ }
 {
-    let hub_next = f.hub_next + m;
-    frames::put_frame(
-        frames,
-        top,
-        Stored {
-            terminal: false,
-            hub_next,
-            ..f
-        },
-    );
+    Tally {
+        work: t.work + n,
+        ..t
+    }
 }
 
-// Where the piece to the top's open hub is not clear, its members are passed over at once, as many as work leaves; one unit is left.
-fn pass_over(b: SearchBudget, frames: &mut [u64], top: usize, clear: bool, t: Tally) -> Tally
-    requires { ⌜ ((top + 1) * frameWidth ≤ length (now frames)) × (t .work < b .«max_work») × (t .donors ≤ t .work) ⌝ }
-    ensures { λ r. ⌜ Passed b clear (now (frames .entry)) (now (frames .exit)) top t r ⌝ }
+// ---- ports passed over
+
+// The members that the open hub has left.
+fn members_left(f: Stored) -> u64
+    ensures { λ r. ⌜ r ≡ f .«hub_end» - f .«hub_next» ⌝ }
+{
+    if f.hub_next < f.hub_end {
+        f.hub_end - f.hub_next
+    } else {
+        0
+    }
+}
+
+// The open hub with m members fewer.
+fn with_fewer(f: Stored, m: u64) -> Stored
+    requires { ⌜ m ≤ f .«hub_end» - f .«hub_next» ⌝ }
+    ensures { λ r. ⌜ r ≡ movedTo f (f .next) (f .«hub_next» + m) (f .«hub_end») ⌝ }
+{
+    if m == 0 {
+        return Stored {
+            terminal: false,
+            ..f
+        };
+    }
+    Stored {
+        terminal: false,
+        hub_next: f.hub_next + m,
+        ..f
+    }
+}
+
+// The units that closing the hub takes, if one is open.
+fn to_close(f: Stored) -> u64
+    ensures { λ r. ⌜ (r ≡ pick (ltb 0 (f .«hub_end»)) 1 0) × (r ≤ 1) ⌝ }
+{
+    if 0 < f.hub_end { 1 } else { 0 }
+}
+
+// Whether a port is left, and work for it.
+fn goes_past(b: SearchBudget, l: image::Lane, f: Stored, t: Tally) -> bool
+    requires { ⌜ t .work < b .«max_work» ⌝ }
+    ensures { λ r. ⌜ (r ≡ true → Further b l f t) ⌝ }
+{
+    if b.max_work - t.work < 3 {
+        return false;
+    }
+    if f.next == 0 {
+        return false;
+    }
+    f.next as usize <= l.count
+}
+
+// The frame on top, whose ports ahead are all blocked, past members and ports as far as work leads; one unit is left.
+fn pass_ports(
+    image: &[u8],
+    h: image::Header,
+    memo: &mut [usize; landings::MEMO],
+    b: SearchBudget,
+    frames: &mut [u64],
+    depth: usize,
+    l: image::Lane,
+    first: Stored,
+    from: Tally,
+) -> Tally
+    requires { ⌜ Accepted (now image) h × Stands (now image) h l × Known (now image) h (now memo) × Stuck (now image) h b (now frames) from depth l first ⌝ }
+    ensures { λ r. ⌜ Passed (now (image .entry)) h b (now (frames .entry)) (now (frames .exit)) from r depth false ⌝ }
+    ensures { λ r. ⌜ Known (now (image .entry)) h (now (memo .exit)) ⌝ }
+{
+    let mut f = first;
+    let mut t = from;
+    loop {
+        let m = smaller(members_left(f), b.max_work - t.work - 1);
+        f = with_fewer(f, m);
+        t = took(t, m);
+        if goes_past(b, l, f, t) {
+            let n = to_close(f);
+            f = advance::past_next(image, h, memo, l, f);
+            t = worked(t, n + 1);
+        } else {
+            break;
+        }
+    }
+    frames::put_frame(frames, depth - 1, f);
+    t
+}
+
+// Where the piece to the top's open hub is not clear, that hub and the ports ahead are passed over at once.
+fn pass_over(
+    image: &[u8],
+    h: image::Header,
+    starts: &[usize; 4096],
+    memo: &mut [usize; landings::MEMO],
+    b: SearchBudget,
+    frames: &mut [u64],
+    depth: usize,
+    clear: bool,
+    t: Tally,
+) -> Tally
+    requires { ⌜ Accepted (now image) h × Started (now image) h (now starts) × Known (now image) h (now memo) × Under (now image) h b (now frames) t depth clear ⌝ }
+    ensures { λ r. ⌜ Passed (now (image .entry)) h b (now (frames .entry)) (now (frames .exit)) t r depth clear ⌝ }
+    ensures { λ r. ⌜ Known (now (image .entry)) h (now (memo .exit)) ⌝ }
 {
     if clear {
         return t;
     }
-    let f = frames::frame_at(frames, top);
+    let f = frames::frame_at(frames, depth - 1);
     if f.terminal {
         return t;
     }
-    if f.hub_end <= f.hub_next {
+    if f.hub_end == 0 {
         return t;
     }
-    let m = smaller(f.hub_end - f.hub_next, b.max_work - t.work - 1);
-    if m == 0 {
-        return t;
+    let l = image::lane_of(image, h, starts, f.source as usize);
+    if advance::leads_on(image, h, l, f) {
+        pass_ports(image, h, memo, b, frames, depth, l, f, t)
+    } else {
+        t
     }
-    skip(frames, top, f, m);
-    took(t, m)
 }
 
 // One evaluation more.
@@ -169,12 +263,14 @@ pub fn go_on(
     image: &[u8],
     h: image::Header,
     starts: &[usize; 4096],
+    memo: &mut [usize; landings::MEMO],
     b: SearchBudget,
     frames: &mut [u64],
     from: Standing,
 ) -> Pause
-    requires { ⌜ Accepted (now image) h × Started (now image) h (now starts) × Walking (now image) h b (now frames) (from .tally) (from .depth) (from .start) (from .clear) ⌝ }
+    requires { ⌜ Accepted (now image) h × Started (now image) h (now starts) × Walking (now image) h b (now frames) (from .tally) (from .depth) (from .start) (from .clear) × Known (now image) h (now memo) ⌝ }
     ensures { λ r. ⌜ Paused (now (image .entry)) h b (now (frames .entry)) (now (frames .exit)) from r ⌝ }
+    ensures { λ r. ⌜ Known (now (image .entry)) h (now (memo .exit)) ⌝ }
 {
     let mut t = from.tally;
     let mut depth = from.depth;
@@ -192,8 +288,8 @@ pub fn go_on(
             if t.evaluations >= b.max_evaluations {
                 break 'families Halt::Stopped(Stop::Evaluation);
             }
-            t = pass_over(b, frames, depth - 1, clear, t);
-            let turn = advance::advance(image, h, starts, family, frames, depth - 1, clear);
+            t = pass_over(image, h, starts, memo, b, frames, depth, clear, t);
+            let turn = advance::advance(image, h, starts, memo, family, frames, depth - 1, clear);
             t = spent(b, t, turn.taken);
             clear = turn.clear;
             let action = turn.action;

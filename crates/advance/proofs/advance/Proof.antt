@@ -9,7 +9,7 @@ advance-spec =
     (tie.spec
     (λ c κs. search needs)  -- frame-at-requires
     (λ c κs. search (needs, lane-of-top))  -- lane-of-requires
-    (λ c κs. (search on-of, search flag-of))  -- unit-requires
+    (λ c κs. (search on-of, search flag-of, search needs))  -- unit-requires
     (λ c κs. search needs)  -- put-frame-requires
     (λ c. search needs)  -- same-length
     (λ c. search moved-of))  -- returns

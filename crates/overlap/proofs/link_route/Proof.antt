@@ -1,15 +1,13 @@
 use borrow.Author.Needs.{needs}
-use Rattle.storage.specs.Orders.{place}
-use Rattle.overlap.proofs.ChainLaws.{linking-again, Linking, linking-start, linking-ends, linking-fails}
-use Rattle.evaluate.specs.Refusals.{at}
+use Rattle.overlap.proofs.ChainLaws.{Linking, linking-again, linking-ends, linking-fails, linking-start}
 use Rattle.overlap.proofs.link_route.Statement.{statement}
 use Rattle.overlap.proofs.link_route.Tie as tie
 
 abbrev Inv-loop : tie.InvT-loop
-Inv-loop words heads₀ links₀ at left place₀ n₀ heads links place n = Linking words at left heads₀ links₀ heads links place n
+Inv-loop words heads₀ links₀ lows₀ tops₀ at left place₀ n₀ heads links lows tops place n = Linking words at left heads₀ links₀ heads links lows tops place n
 
 abbrev μ-loop : tie.MeasureT-loop
-μ-loop words heads₀ links₀ at left place₀ n₀ heads links place n = n
+μ-loop words heads₀ links₀ lows₀ tops₀ at left place₀ n₀ heads links lows tops place n = n
 
 pub link-route-spec : {M : Type 1} → statement M
 link-route-spec =
