@@ -1,6 +1,6 @@
 -- Laws of one unit on a stored frame.
-use Prim.Native.Nat.{ℕ, zero, suc, _+_, _-_, _*_, _≤_, _<_, min, max}
-use native.Mathlib.Nat.{min-eq-left, min-eq-right, max-eq-left, max-eq-right, not-suc-le-zero}
+use Prim.Native.Nat.{ℕ, suc, _+_, _-_, _≤_, _<_, min, max}
+use native.Mathlib.Nat.{min-eq-left, min-eq-right, max-eq-left, max-eq-right}
 use native.Mathlib.Numerals.{add-one}
 use native.Mathlib.Omega.{arith}
 use mathlib.Core.Path.{_≡_, refl, sym, ap, _∙_}
@@ -10,7 +10,7 @@ use mathlib.Core.Logic.{_⊎_, inl, inr}
 use mir.Val.{Fits}
 use mir.Syntax.{w64}
 use borrow.Author.Needs.{fits-under}
-use borrow.Author.Tests.{eq-eqb, ne-eqb, lt-ltb, le-ltb, ltb-true, ltb-false, leb-true}
+use borrow.Author.Tests.{eq-eqb, ne-eqb, lt-ltb, le-ltb, ltb-true, leb-true}
 use lib.Dec.{leb, ltb, eqb}
 use lib.ListN.{length, getD, length-append}
 use Rattle.ground.specs.Lists.{pick, all, count, oneMoreIf, sum}
@@ -23,19 +23,18 @@ use Rattle.image.specs.declared.Header.{Header}
 use Rattle.image.specs.declared.Lane.{Lane}
 use Rattle.image.specs.declared.Family.{Family}
 use Rattle.image.specs.Image.{entries, counts, pathCounts, portsOf, lanePorts, hub, paths, families, pathsOf, noEntry}
-use Rattle.image.specs.Inner.{Framed, Started, Stands, Groups}
+use Rattle.image.specs.Inner.{Framed, Stands, Groups}
 use Rattle.image.specs.Panel.{Panel, panelOf, laneAt, pathsAt}
 use Rattle.image.proofs.Laws.{panel-ports, panel-hub, panel-k, panel-families, panel-entry, row-length, hub-length, lane-ports-length, paths-length, path-counts-length, family-index, family-path-is, family-length, lane-within}
 use Rattle.families.specs.Families.{countOk, sound5, sound5a, sound5b, names, noTwice}
 use Rattle.panel.specs.Inner.{Accepted}
-use Rattle.panel.specs.Refusals.{soundPort, soundPlace, laneRising}
+use Rattle.panel.specs.Refusals.{soundPlace, laneRising}
 use Rattle.panel.proofs.Laws.{record-sound, row-rises}
 use Rattle.evaluate.specs.declared.Segment.{Segment}
 use Rattle.evaluate.specs.Segments.{clear, flat, overlap}
-use Rattle.search.specs.Walk.{Place, Frame, Doing, pass, down, give, Act, leave, doing, firstPort, enter, begins, pieceTo, onPath, closes, closed, terminalTask, memberTask, samePlace, reach, switched, outgoing, behind, onward, hubOpen, nextPort, spent, opening, portUnit, hubUnit, unitOf, takesMember}
-use Rattle.search.specs.Rooms.{frameWidth}
+use Rattle.search.specs.Walk.{Frame, pass, doing, firstPort, enter, pieceTo, onPath, closes, terminalTask, memberTask, samePlace, reach, behind, onward, spent, portUnit, hubUnit, unitOf}
 use Rattle.frames.specs.declared.Stored.{Stored}
-use Rattle.frames.specs.Inner.{Path, noPath, pieceFrom, longer, pathTo, pathAt, pieces, placeWith, frameWith, storedAt, put, Alike}
+use Rattle.frames.specs.Inner.{Path, pieceFrom, pathTo, pathAt, pieces, placeWith, frameWith, storedAt, put, Alike}
 use Rattle.frames.proofs.Laws.{path-pieces}
 use Rattle.landings.specs.declared.Landing.{Landing}
 use Rattle.landings.specs.Inner.{landingOf, sameLanding, reached}
@@ -600,9 +599,6 @@ behind-ok s h n f so lt = so .second (omega arith)
 
 pub two-below : (f : Stored) → (f .reverse ≡ false → 2 ≤ f .next) → f .reverse ≡ false → 2 ≤ f .next
 two-below f h e = h e
-
-pub next-few : (s : List ℕ) (h : Header) (family : Family) (l : Lane) (xs : List ℕ) (top : ℕ) (f : Stored) → On s h family l xs top f → f .next ≤ l .count → f .next ≤ 4194304
-next-few s h family l xs top f on le = let w = lane-within s h l (on .stands) in omega (arith, on .stands .counted .framed .fewPorts)
 
 -- ---- a frame whose ports ahead are all blocked
 

@@ -1,9 +1,9 @@
 -- One unit on a stored frame, against the walk's unit; nothing here is part of a public promise.
-use Prim.Native.Nat.{ℕ, zero, suc, _+_, _-_, _*_, _≤_, _<_}
+use Prim.Native.Nat.{ℕ, suc, _+_, _-_, _*_, _≤_, _<_}
 use mathlib.Core.Logic.{_⊎_}
 use mathlib.Core.Path.{_≡_}
 use mathlib.Core.Bool.{Bool, true, false, not, _&&_}
-use mathlib.Core.List.{List, [], _∷_, _++_}
+use mathlib.Core.List.{List, _++_}
 use lib.Dec.{leb, ltb, eqb}
 use lib.ListN.{length, getD}
 use Rattle.ground.specs.Lists.{pick}
@@ -23,7 +23,7 @@ use Rattle.evaluate.specs.Segments.{clear, flat}
 use Rattle.search.specs.Walk.{Place, Frame, Doing, pass, down, give, Act, leave, doing, firstPort, begins, pieceTo, onPath, memberTask, reach, outgoing, behind, onward, hubOpen, unitOf, takesMember}
 use Rattle.search.specs.Rooms.{frameWidth}
 use Rattle.frames.specs.declared.Stored.{Stored}
-use Rattle.frames.specs.Inner.{Path, noPath, longer, pathTo, pathAt, pieces, placeWith, frameWith, storedAt, put, Alike}
+use Rattle.frames.specs.Inner.{Path, noPath, longer, pathTo, pathAt, placeWith, frameWith, storedAt, put, Alike}
 use Rattle.landings.specs.declared.Landing.{Landing}
 use Rattle.advance.specs.declared.Action.{Action}
 use Rattle.advance.specs.declared.Action.the-variants.{Leave, Pass, Down, Give}

@@ -1,33 +1,32 @@
 -- Laws of the assignment check: one for each way through the code.
 use Prim.Native.Nat.{ℕ, zero, suc, _+_, _≤_, _<_}
 use native.Mathlib.Omega.{arith}
-use mathlib.Core.Path.{_≡_, refl, sym, ap, ap₂, _∙_, subst}
+use mathlib.Core.Path.{_≡_, refl, sym, ap, _∙_, subst}
 use mathlib.Core.Bool.{Bool, true, false}
-use mathlib.Core.List.{List, [], _∷_, _++_, map}
-use lib.Dec.{leb, ltb, eqb}
-use lib.ListN.{length, take, drop, getD}
-use lib.Seq.{sets, sets-eq}
+use mathlib.Core.List.{List, map}
+use lib.Dec.{eqb}
+use lib.ListN.{length, drop, getD}
+use lib.Seq.{sets-eq}
 use mir.Val.{Fits}
 use mir.Syntax.{w64}
 use borrow.Author.Tests.{lt-ltb, le-ltb, le-leb, lt-leb, eq-eqb, ne-eqb}
-use Rattle.ground.specs.Lists.{sum}
-use Rattle.ground.proofs.ListLaws.{SumTo, sum-to-next, sum-to-fits, sum-to-done}
+use Rattle.ground.proofs.ListLaws.{SumTo, sum-to-next, sum-to-fits}
 use Rattle.image.specs.declared.Header.{Header}
 use Rattle.image.specs.declared.Family.{Family}
 use Rattle.image.specs.declared.Opened.{Opened}
 use Rattle.image.specs.declared.Opened.the-variants.{Good, Refused}
-use Rattle.image.specs.Image.{families, pathCounts, pathsOf}
-use Rattle.image.specs.Inner.{Framed, Grouped, Groups}
+use Rattle.image.specs.Image.{pathCounts, pathsOf}
+use Rattle.image.specs.Inner.{Grouped, Groups}
 use Rattle.image.specs.Panel.{Panel, panelOf, pathsAt}
 use Rattle.image.proofs.Laws.{panel-families, families-length, family-length, path-counts-length, few-paths}
 use Rattle.panel.specs.Inner.{Accepted}
-use Rattle.graph.specs.Check.{checked, refusalOf, panelRefusal}
+use Rattle.graph.specs.Check.{checked, panelRefusal}
 use Rattle.evaluate.specs.declared.Refusal.{Refusal}
 use Rattle.evaluate.specs.declared.AssignmentReply.{AssignmentReply}
 use Rattle.evaluate.specs.Refusals.{noRefusal, unless, at}
 use Rattle.evaluate.specs.Segments.{Assignment, normalize, normalForm, apart, flat}
 use Rattle.evaluate.specs.Words.{Read, malformed, got, decode, encode}
-use Rattle.evaluate.specs.Check.{routesRefusal, overlapRefusal, andAfter, assignmentRefusal, readRefusal, wordsRefusal, checkRefusal, readNormal, normalWords, writtenBy, over, checkAnswer, checkOut}
+use Rattle.evaluate.specs.Check.{routesRefusal, overlapRefusal, assignmentRefusal, readRefusal, wordsRefusal, checkRefusal, normalWords, checkAnswer, checkOut}
 use Rattle.evaluate.proofs.Native.{checked-none}
 use Rattle.words.specs.Inner.{routesOf, assignmentOf, formed, Parsed, Formed, NormalPut}
 use Rattle.words.proofs.Writing.{routes-length}
@@ -120,9 +119,6 @@ module _ (s : List ℕ) (h : Header) (ws : List ℕ) (acc : Accepted s h) (numbe
       where
         rest : assignmentRefusal (panelOf s) (assignmentOf ws) ≡ familyRefusal (panelOf s) (assignmentOf ws)
         rest = rw (given-routes, wanted, count, lt-ltb (getD ws 0 0) (h .families) (rw (← en) lt), eq-eqb n (f .count) eq)
-
-pub family-numbers : (ws : List ℕ) (f : Family) (number n : ℕ) → number ≡ getD ws 0 0 → f .number ≡ number → f .number ≡ getD ws 0 0
-family-numbers ws f number n e q = q ∙ e
 
 -- ---- 21, 22, and the answer
 

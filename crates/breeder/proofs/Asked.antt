@@ -1,20 +1,19 @@
 -- A run of the search that was not refused meets the premises of demand 3, and its reply and rooms are what demand 3 speaks of.
-use Prim.Native.Nat.{ℕ, zero, suc, _+_, _<_}
+use Prim.Native.Nat.{ℕ, zero, suc}
 use native.Mathlib.Omega.{arith}
-use mathlib.Core.Path.{_≡_, refl, sym, ap, subst, _∙_}
-use mathlib.Core.Logic.{_↔_}
+use mathlib.Core.Path.{_≡_, refl, sym, ap, _∙_}
 use mathlib.Core.Bool.{Bool, true, false}
 use mathlib.Core.List.{List, [], _∷_}
 use lib.Dec.{eqb}
 use lib.ListN.{length, take, getD}
 use lib.Ieee.{Float}
 use lib.Ieee.Scale.{finite}
-use borrow.Author.Tests.{eqb-true, eqb-false}
+use borrow.Author.Tests.{eqb-true}
 use Rattle.ground.specs.Lists.{pick}
 use Rattle.image.specs.Panel.{panelOf}
 use Rattle.graph.specs.Check.{panelRefusal}
 use Rattle.evaluate.specs.declared.Refusal.{Refusal}
-use Rattle.evaluate.specs.Refusals.{noRefusal, at}
+use Rattle.evaluate.specs.Refusals.{at}
 use Rattle.evaluate.specs.Properties.{Matched}
 use Rattle.evaluate.specs.Segments.{Assignment}
 use Rattle.search.specs.declared.SearchBudget.{SearchBudget}
@@ -32,7 +31,7 @@ use Rattle.certificate.proofs.Reply.{reply-is}
 use Rattle.enumeration.proofs.Tally.{walk-tallied}
 use Rattle.certificate.proofs.Certificate.{demand3}
 use Rattle.certificate.proofs.Told.{rooms-tell}
-use Rattle.breeder.specs.Sentence.{Asked, Complete, Sheet, Sentence}
+use Rattle.breeder.specs.Sentence.{Asked, Sheet, Sentence}
 
 -- ---- what a reply without a refusal says
 

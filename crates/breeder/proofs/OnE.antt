@@ -1,4 +1,4 @@
--- The breeder's sentence on panel E: every premise is met.
+-- For the reader: the breeder's sentence on panel E, where every premise is met.
 use mathlib.Core.Path.{_≡_, ap, _∙_}
 use Rattle.image.specs.Panel.{panelOf}
 use Rattle.search.specs.declared.SearchReply.{SearchReply}

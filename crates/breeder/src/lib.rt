@@ -1,7 +1,7 @@
-// The breeder's question put to the exported search: a run of it, with nothing known of it but its promise.
-ghost use Rattle.search.specs.Answers.{Rooms};
+// The breeder's question put to the exported search.
 ghost use Rattle.breeder.specs.Sentence.{Sentence};
 
+// For the reader: a run of the search, with nothing known of it but its promise, tells the sentence.
 pub fn certify(
     image: &[u8],
     budget: search::SearchBudget,

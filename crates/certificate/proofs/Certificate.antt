@@ -1,4 +1,4 @@
--- Demand 3: all of it.
+-- For the reader: demand 3, all of it.
 use Rattle.certificate.specs.Demand3.{Demand3}
 use Rattle.certificate.proofs.Check.{check-is-legality}
 use Rattle.certificate.proofs.Walk.{walk-ends, whole-walk, exhausted-when-enough, all-evaluated-once}

@@ -1,5 +1,5 @@
--- Demand 3 used: on panel E with 01's scores and budgets its premises are met, and each of its statements tells something.
-use Prim.Native.Nat.{ℕ, _-_}
+-- For the reader: demand 3 used. On panel E with 01's scores and budgets its premises are met, and each of its statements tells something.
+use Prim.Native.Nat.{ℕ}
 use native.Mathlib.Omega.{arith}
 use mathlib.Core.Path.{_≡_, refl, sym, ap, _∙_, subst}
 use mathlib.Core.List.{List, [], _∷_}
@@ -28,10 +28,9 @@ use Rattle.search.specs.declared.SearchBudget.{SearchBudget}
 use Rattle.search.specs.declared.Status.the-variants.{Certified}
 use Rattle.search.specs.Budget.{widthOk, budgetOk, budgetInBounds, budgetRefusal}
 use Rattle.search.specs.Walk.{enter, terminalTask, memberTask, portUnit, hubUnit, unitOf}
-use Rattle.search.specs.Run.{exhausted, Unbudgeted, Suffices, deepest, units, run, seeds, seeded, afterSeeding, walkFrom, walk}
+use Rattle.search.specs.Run.{Unbudgeted, Suffices, deepest, units, run, seeds, seeded, afterSeeding, walkFrom, walk}
 use Rattle.search.specs.Counters.{statusNumber}
 use Rattle.search.specs.Keep.{Evaluated, evaluated}
-use Rattle.search.specs.Search.{search}
 use Rattle.search.specs.Rooms.{mostPaths, slotWidth, roomsRefusal, listRoomsRefusal}
 use Rattle.search.specs.Answers.{ListRooms, searchAnswer, listRefusal, listReplyOf, listAnswer}
 use native.Mathlib.Bridge.{le-by-compare, IsLe}

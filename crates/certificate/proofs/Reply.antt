@@ -25,7 +25,7 @@ use Rattle.search.specs.Counters.{stopOf, statusOf, statusNumber}
 use Rattle.search.specs.Keep.{evaluated, scoresRefusal}
 use Rattle.search.specs.Search.{walked, evaluationRefusal, searchedAs, searchFrom, search}
 use Rattle.search.specs.Answers.{Rooms, searchRefusal, replyOf, searchAnswer}
-use Rattle.certificate.specs.Terms.{FiniteScore, Admitted, Exhausted, keptBy, evaluations, handedOver, assignmentOf}
+use Rattle.certificate.specs.Terms.{FiniteScore, Admitted, Exhausted, keptBy, handedOver, assignmentOf}
 
 -- ---- scores
 

@@ -3,15 +3,15 @@
 use Prim.Native.Nat.{ℕ, zero, suc, _+_, _≤_, _<_}
 use native.Mathlib.Omega.{arith}
 use mathlib.Core.Path.{sym, ap, _∙_, subst}
-use mathlib.Core.Logic.{_⊎_, ⊎-elim}
-use mathlib.Core.List.{List, [], List·Memᴰ, List·Memᴰ·not-nil, List·Memᴰ·cases-cons, List·Memᴰ·append-cases}
+use mathlib.Core.Logic.{⊎-elim}
+use mathlib.Core.List.{List, List·Memᴰ, List·Memᴰ·not-nil, List·Memᴰ·cases-cons, List·Memᴰ·append-cases}
 use lib.ListN.{length}
 use Rattle.ground.specs.Lists.{numbersFrom}
 use Rattle.image.specs.Panel.{panelOf}
 use Rattle.evaluate.specs.Segments.{Assignment, nativeOf}
 use Rattle.evaluate.specs.Legal.{Legal}
 use Rattle.evaluate.proofs.Native.{native-legal}
-use Rattle.search.specs.Run.{Walk, unlimited, walk, nativesOf, outset}
+use Rattle.search.specs.Run.{Walk, unlimited, nativesOf, outset}
 use Rattle.evaluate.proofs.Lists.{mem-map, pairs-neighbours}
 use Rattle.enumeration.proofs.Accepted.{accepted-ends}
 use Rattle.enumeration.proofs.Suffice.{one-end, ends-iff, ends-as}

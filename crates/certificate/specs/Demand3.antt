@@ -2,23 +2,19 @@
 use Prim.Native.Nat.{ℕ}
 use mathlib.Core.Path.{_≡_}
 use mathlib.Core.Logic.{_↔_}
-use mathlib.Core.Bool.{Bool, true, false}
 use mathlib.Core.List.{List, [], _∷_, map, List·Memᴰ}
 use lib.ListN.{length}
 use lib.Ieee.{Float}
-use Rattle.image.specs.Panel.{Panel, panelOf}
-use Rattle.evaluate.specs.declared.AssignmentReply.{AssignmentReply}
+use Rattle.image.specs.Panel.{panelOf}
 use Rattle.evaluate.specs.Properties.{Pairs}
 use Rattle.evaluate.specs.Segments.{Assignment, normalForm, flat}
 use Rattle.evaluate.specs.Legal.{Legal, SoundSpans}
 use Rattle.evaluate.specs.Check.{checkAnswer, over}
 use Rattle.search.specs.declared.SearchBudget.{SearchBudget}
-use Rattle.search.specs.declared.SearchReply.{SearchReply}
-use Rattle.search.specs.declared.ListReply.{ListReply}
 use Rattle.search.specs.declared.Status.the-variants.{Certified}
-use Rattle.search.specs.Run.{Walk, Unbudgeted, Suffices}
+use Rattle.search.specs.Run.{Unbudgeted, Suffices}
 use Rattle.search.specs.Counters.{statusNumber}
-use Rattle.search.specs.Keep.{Kept, Evaluated}
+use Rattle.search.specs.Keep.{Evaluated}
 use Rattle.search.specs.Answers.{Rooms, ListRooms, searchAnswer, listAnswer, listRooms, written}
 use Rattle.certificate.specs.Terms.{PanelAccepted, Within, Admitted, Exhausted, handedOver, keptBy, Scores, NativesThenLegal, Least, Ties, NoTwo, Earlier, assignmentOf}
 

@@ -1,23 +1,22 @@
 -- The proved examples P1 to P11 (01, "Proved examples"), in one table, on panel E's own bytes, with budgets and scores as doubles.
-use Prim.Native.Nat.{ℕ, zero, suc, _+_, _*_, _-_, _/_, min, max}
+use Prim.Native.Nat.{ℕ, _+_}
 use native.Mathlib.Omega.{arith}
 use mathlib.Core.Path.{_≡_, refl, ap, _∙_}
 use mathlib.Core.Bool.{Bool, true, false, _&&_}
 use mathlib.Core.List.{List, [], _∷_, _++_, map}
 use lib.Dec.{eqb}
 use borrow.Author.Tests.{ne-eqb}
-use lib.ListN.{length, take, drop, set, replicate}
-use lib.IntN.{pos, negsuc}
+use lib.ListN.{take, drop, set, replicate}
 use lib.Ieee as Ieee
-use lib.Ieee.{Float, nan, inf, fin, binary64}
+use lib.Ieee.{Float, binary64}
 use Rattle.ground.specs.Lists.{pick, each, split, sum, all, any, count, keep, after, rising, numbersFrom, distinct}
 use Rattle.storage.specs.Bytes.{little, number}
-use Rattle.storage.specs.Records.{portOf, padded, cutAs, cutOf, standsAt}
+use Rattle.storage.specs.Records.{portOf, padded, cutAs, standsAt}
 use Rattle.storage.specs.declared.Port.{Port}
 use Rattle.storage.specs.Orders.{wordOrder, portOrder, bucketOf, wordBelow, wordUpTo}
 use Rattle.image.specs.Header.{headerOf, sound2, sound3, opened}
 use Rattle.image.specs.Image.{entryOf, entries, counts, pathCounts, paths, lanePorts, hub, portsOf, startOf, families, pathsOf}
-use Rattle.image.specs.Panel.{Panel, PanelLane, laneAt, zipLanes, panelBy, panelOf}
+use Rattle.image.specs.Panel.{Panel, laneAt, zipLanes, panelBy, panelOf}
 use Rattle.families.specs.Families.{countOk, names, noTwice, sound5a, sound5b, sound5}
 use Rattle.panel.specs.Refusals.{lengthOk, sound4, letter, soundPlace, soundRecord, soundRecords, hubRising, laneRising, lanesRising, listed, sound8, from, ownRow, ownRows, sound6, sound7}
 use Rattle.storage.specs.Orders.{placeOf, placeLt, recordLt, samePort}
@@ -25,7 +24,7 @@ use Rattle.graph.specs.Check.{portsChecked, later, checked}
 use Rattle.evaluate.specs.declared.Segment.{Segment}
 use Rattle.graph.specs.PanelE.{panelE}
 use Rattle.graph.specs.Check.{panelRefusal}
-use Rattle.evaluate.specs.Segments.{Route, joining, normalize, overlap}
+use Rattle.evaluate.specs.Segments.{joining, normalize, overlap}
 use Rattle.storage.specs.Records.{sameTurn}
 use Rattle.graph.specs.Lookups.{portsAt, bucketLo, bucketHi}
 use Rattle.evaluate.specs.Words.{encode}
@@ -36,7 +35,7 @@ use Rattle.search.specs.Walk.{enter, terminalTask, memberTask, portUnit, hubUni
 use Rattle.search.specs.Run.{units, run, seeds, seeded, afterSeeding, walkFrom, walk}
 use Rattle.search.specs.Counters.{mostSwitches, tallyOf}
 use Rattle.search.specs.Keep.{Kept, Evaluated, tiesTo, lowered, added, keepOne, keepAll, sameList, evaluated, scoresRefusal}
-use Rattle.search.specs.Search.{State, Searched, walked, evaluationRefusal, keptOf, searchedAs, searchFrom, search}
+use Rattle.search.specs.Search.{walked, evaluationRefusal, keptOf, searchedAs, searchFrom, search}
 use Rattle.search.specs.Rooms.{stackWords, framesLeft, mostPaths, slotWidth, keptLeft, keptScoresLeft, roomsRefusal, leftIn}
 use Rattle.search.specs.Answers.{Rooms, searchRefusal, replyOf, searchAnswer, roomsAfter, searchRooms}
 

@@ -2,7 +2,7 @@
 use Prim.Native.Nat.{ℕ, _≤_, _<_}
 use mathlib.Core.Path.{_≡_}
 use mathlib.Core.Logic.{_⊎_, _↔_}
-use mathlib.Core.Bool.{Bool, true, false}
+use mathlib.Core.Bool.{true, false}
 use mathlib.Core.List.{List, [], _∷_, _++_, List·Memᴰ}
 use lib.ListN.{length, take}
 use lib.Ieee as Ieee
@@ -19,10 +19,10 @@ use Rattle.search.specs.declared.SearchBudget.{SearchBudget}
 use Rattle.search.specs.declared.SearchReply.{SearchReply}
 use Rattle.search.specs.declared.Status.the-variants.{Certified, SupportIncomplete}
 use Rattle.search.specs.Budget.{budgetRefusal}
-use Rattle.search.specs.Run.{Walk, Walked, walk, nativesOf}
+use Rattle.search.specs.Run.{walk, nativesOf}
 use Rattle.search.specs.Counters.{statusNumber}
 use Rattle.search.specs.Keep.{Kept, Evaluated, tiedTo, evaluated}
-use Rattle.search.specs.Search.{State, Searched, search}
+use Rattle.search.specs.Search.{search}
 use Rattle.search.specs.Rooms.{roomsRefusal}
 use Rattle.search.specs.Answers.{Rooms}
 

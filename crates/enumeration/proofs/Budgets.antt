@@ -1,5 +1,5 @@
 -- Budgets that suffice, and only these, let the walk end by itself; then it is the unbudgeted walk.
-use Prim.Native.Nat.{ℕ, zero, suc, _+_, _-_, _≤_, _<_}
+use Prim.Native.Nat.{ℕ, zero, suc, _+_, _≤_, _<_}
 use native.Mathlib.Omega.{arith}
 use mathlib.Core.Path.{_≡_, refl, sym, _∙_, ap}
 use mathlib.Core.Logic.{_⊎_, inl, inr}
@@ -12,7 +12,7 @@ use Rattle.ground.specs.Lists.{pick}
 use Rattle.image.specs.Panel.{Panel, pathsAt}
 use Rattle.search.specs.declared.SearchBudget.{SearchBudget}
 use Rattle.search.specs.Walk.{pass, down, give, Frame, Act, leave, doing, enter, unitOf, takesMember}
-use Rattle.search.specs.Run.{Walk, Ending, exhausted, onWork, onEvaluation, onFrontier, Phase, going, ended, Limits, limitsOf, unlimited, root, stacked, begin, spend, handed, doneWith, afterAct, onTop, unit, units, short, walk, framesOf, deepest}
+use Rattle.search.specs.Run.{Walk, Ending, exhausted, onWork, onEvaluation, onFrontier, Phase, going, ended, Limits, limitsOf, unlimited, root, stacked, begin, spend, handed, doneWith, afterAct, onTop, unit, units, framesOf, deepest}
 use Rattle.enumeration.proofs.Whole.{ended-stays}
 
 abbrev pub walkIn : Phase → Walk

@@ -1,16 +1,16 @@
 -- The tests say what they stand for: two spans overlap exactly when they share a base, and a span is sound as its record says.
-use Prim.Native.Nat.{ℕ, _≤_, _<_, max}
+use Prim.Native.Nat.{_<_, max}
 use native.Mathlib.Omega.{arith}
 use mathlib.Core.Path.{_≡_, refl, sym, _∙_}
 use mathlib.Core.Logic.{_↔_}
-use mathlib.Core.Bool.{Bool, true, false, _&&_}
+use mathlib.Core.Bool.{true, _&&_}
 use lib.Dec.{leb, ltb, eqb}
 use lib.ListN.{length}
 use borrow.Author.Tests.{eq-eqb, eqb-true, lt-ltb, ltb-true, le-leb, leb-true}
 use Rattle.ground.proofs.ListLaws.{both}
-use Rattle.image.specs.Panel.{Panel, PanelLane, laneAt}
+use Rattle.image.specs.Panel.{Panel, laneAt}
 use Rattle.evaluate.specs.declared.Segment.{Segment}
-use Rattle.evaluate.specs.Segments.{Holds, Share, overlap, SoundSpan, soundSpan}
+use Rattle.evaluate.specs.Segments.{Share, overlap, SoundSpan, soundSpan}
 
 pub overlap-share : (s t : Segment) → s .start < s .end → t .start < t .end → overlap s t ≡ true → Share s t
 overlap-share s t hs ht e =
@@ -31,7 +31,7 @@ share-overlap s t h =
     let b : t .start < s .end = omega (arith, h .right .from, h .left .below) in
     rw (eq-eqb (s .source) (t .source) (h .left .lane ∙ sym (h .right .lane)), lt-ltb (s .start) (t .end) a, lt-ltb (t .start) (s .end) b)
 
--- of spans that are not empty
+-- For the reader: of spans that are not empty, the test says that they share a base exactly when they do
 pub overlap-iff : (s t : Segment) → s .start < s .end → t .start < t .end → (overlap s t ≡ true) ↔ Share s t
 overlap-iff s t hs ht = (overlap-share s t hs ht, share-overlap s t)
 

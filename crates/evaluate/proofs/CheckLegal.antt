@@ -2,28 +2,28 @@
 use Prim.Native.Nat.{ℕ, zero, suc, _≤_, _<_}
 use native.Mathlib.Omega.{arith}
 use mathlib.Core.Path.{_≡_, refl, sym, ap, _∙_, subst}
-use mathlib.Core.Logic.{_⊎_, inl, inr, ⊎-elim, _↔_}
+use mathlib.Core.Logic.{_↔_}
 use mathlib.Core.Bool.{Bool, true, false, not, _&&_, true≢false}
-use mathlib.Core.List.{List, [], _∷_, _++_, map}
-use lib.Dec.{leb, ltb, eqb}
+use mathlib.Core.List.{List, [], _∷_, map}
+use lib.Dec.{ltb, eqb}
 use lib.ListN.{length}
 use borrow.Author.Tests.{eq-eqb, eqb-true, lt-ltb, ltb-true, le-leb, not-true}
 use Rattle.ground.specs.Lists.{all}
 use Rattle.ground.proofs.ListLaws.{both}
 use Rattle.storage.specs.declared.Port.{Port}
-use Rattle.image.specs.Panel.{Panel, PanelLane, panelOf, laneAt, pathsAt}
+use Rattle.image.specs.Panel.{Panel, panelOf, laneAt, pathsAt}
 use Rattle.evaluate.specs.declared.Segment.{Segment}
 use Rattle.evaluate.specs.declared.Refusal.{Refusal}
 use Rattle.evaluate.proofs.Lists.{each-append, append-each}
 use Rattle.evaluate.specs.Properties.{Each, Pairs, Neighbours, First, Last, Matched}
 use Rattle.evaluate.specs.Refusals.{noRefusal, unless, orElse, at}
 use Rattle.graph.specs.Check.{panelRefusal}
-use Rattle.evaluate.specs.Segments.{Route, Assignment, entry, exit, flat, SoundSpan, soundSpan, normalize, normalForm, Unjoined, Share, overlap, clear, apart}
-use Rattle.graph.specs.Lookups.{PortAt, portsAt}
+use Rattle.evaluate.specs.Segments.{Route, Assignment, entry, exit, flat, SoundSpan, soundSpan, normalize, normalForm, overlap, clear, apart}
+use Rattle.graph.specs.Lookups.{portsAt}
 use Rattle.storage.specs.Orders.{sameWord}
-use Rattle.evaluate.specs.Words.{Read, malformed, got, decode}
+use Rattle.evaluate.specs.Words.{got, decode}
 use Rattle.evaluate.specs.Legal.{Enters, Leaves, Joint, LegalRoute, Apart, Legal, SoundSpans}
-use Rattle.evaluate.specs.Check.{mostWords, isEmpty, enters, leaves, matchRefusal, jointRefusal, jointsRefusal, normalRefusal, routeRefusal, routesRefusal, overlapRefusal, andAfter, assignmentRefusal, readRefusal, wordsRefusal, checkRefusal, checkAnswer}
+use Rattle.evaluate.specs.Check.{mostWords, isEmpty, enters, leaves, matchRefusal, jointRefusal, jointsRefusal, normalRefusal, routeRefusal, routesRefusal, overlapRefusal, andAfter, assignmentRefusal, wordsRefusal, checkRefusal, checkAnswer}
 use Rattle.evaluate.proofs.Bases.{overlap-share, share-overlap, sound-iff}
 use Rattle.evaluate.proofs.NormalForm.{Filled, normal, sound-normal, filled-of}
 use Rattle.evaluate.proofs.Ports.{Rows, rows-of, port-found, port-none, port-one, same-word, word-same-of}

@@ -1,14 +1,14 @@
 -- The native assignment of every family of an accepted panel is legal.
-use Prim.Native.Nat.{ℕ, zero, suc, _≤_, _<_, zero-le}
+use Prim.Native.Nat.{ℕ, zero, suc, _≤_, _<_}
 use native.Mathlib.Nat.{not-suc-le-zero}
 use native.Mathlib.Omega.{arith}
 use mathlib.Core.Path.{_≡_, refl, sym, ap, _∙_, subst}
 use mathlib.Core.Bool.{Bool, true, false, not, _&&_, _||_}
-use mathlib.Core.List.{List, [], _∷_, _++_, map}
+use mathlib.Core.List.{List, [], _∷_, map}
 use lib.Dec.{leb, ltb, eqb}
 use lib.ListN.{length, take, drop, getD}
-use borrow.Author.Tests.{eq-eqb, eqb-false, ltb-true, leb-true, not-true}
-use Rattle.ground.specs.Lists.{pick, within, all, any, split, distinct}
+use borrow.Author.Tests.{eqb-false, ltb-true, leb-true, not-true}
+use Rattle.ground.specs.Lists.{within, all, any, split, distinct}
 use Rattle.ground.proofs.ListLaws.{both, all-at}
 use Rattle.storage.specs.declared.Port.{Port}
 use Rattle.image.specs.declared.Header.{Header}
@@ -18,17 +18,16 @@ use Rattle.image.specs.declared.Opened.the-variants.{Good, Refused}
 use Rattle.image.specs.Header.{headerOf, opened, orRefuse, sound1, sound2, sound3}
 use Rattle.image.specs.Image.{entries, counts, lanePorts, families, paths, pathCounts, noEntry}
 use Rattle.image.specs.Inner.{Framed}
-use Rattle.image.specs.Panel.{Panel, PanelLane, panelOf, panelBy, zipLanes, noLane, laneAt, pathsAt}
-use Rattle.image.proofs.Laws.{entries-length, rows-length, families-length}
+use Rattle.image.specs.Panel.{Panel, panelOf, panelBy, zipLanes, noLane, laneAt, pathsAt}
+use Rattle.image.proofs.Laws.{entries-length, rows-length}
 use Rattle.families.specs.Families.{names, noTwice, sound5a, sound5b, sound5}
 use Rattle.panel.specs.Refusals.{lengthOk, sound4, sound6, sound7, sound8}
 use Rattle.panel.specs.Inner.{Accepted}
 use Rattle.graph.specs.Check.{portsChecked, later, afterOpen, checked}
 use Rattle.graph.proofs.Laws.{accepted-of}
-use Rattle.evaluate.specs.declared.Segment.{Segment}
 use Rattle.evaluate.specs.Properties.{Each, Pairs, Matched}
 use Rattle.graph.specs.Check.{refusalOf, panelRefusal}
-use Rattle.evaluate.specs.Segments.{Route, flat, whole, nativeOf, Share}
+use Rattle.evaluate.specs.Segments.{flat, whole, nativeOf}
 use Rattle.evaluate.specs.Legal.{LegalRoute, Apart, Legal}
 
 -- ---- whole lanes

@@ -5,13 +5,12 @@ use native.Mathlib.Decide.{decLt}
 use mathlib.Core.Path.{_≡_, refl, sym, _∙_, ap, subst}
 use mathlib.Core.Logic.{_⊎_, inl, inr, ⊎-elim, _↔_}
 use mathlib.Core.Bool.{Bool, true, false, _&&_, true≢false}
-use mathlib.Core.List.{List, [], _∷_}
+use mathlib.Core.List.{[], _∷_}
 use lib.Dec.{eqb}
-use lib.ListN.{length}
 use borrow.Author.Tests.{eqb-true}
 use Rattle.ground.specs.Lists.{pick}
 use Rattle.ground.proofs.ListLaws.{both}
-use Rattle.image.specs.Panel.{Panel, PanelLane, laneAt}
+use Rattle.image.specs.Panel.{Panel, laneAt}
 use Rattle.evaluate.specs.declared.Segment.{Segment}
 use Rattle.evaluate.specs.Properties.{Each, Neighbours, First}
 use Rattle.evaluate.specs.Segments.{Route, entry, exit, joinable, joined, joining, normalize, Unjoined, Holds, SoundSpan}
@@ -54,16 +53,6 @@ module _ (s t : Segment) (hs : s .start < s .end) (ht : t .start < t .end) (j : 
     where
       go : (a b : Bool) → a ≡ b → pick a (s .start) (s .end) ≡ pick b (t .end) (t .start)
           → pick a (max (s .end) (t .end)) (min (s .start) (t .start)) ≡ pick a (s .end) (s .start)
-      go false false e c = omega arith
-      go true true e c = omega arith
-      go false true e c = absurd (true≢false (sym e))
-      go true false e c = absurd (true≢false e)
-
-  pub joined-exit : exit (joined s t) ≡ exit t
-  joined-exit = go (s .reverse) (t .reverse) (j .turn) (j .cut)
-    where
-      go : (a b : Bool) → a ≡ b → pick a (s .start) (s .end) ≡ pick b (t .end) (t .start)
-          → pick a (min (s .start) (t .start)) (max (s .end) (t .end)) ≡ pick b (t .start) (t .end)
       go false false e c = omega arith
       go true true e c = omega arith
       go false true e c = absurd (true≢false (sym e))
@@ -152,6 +141,7 @@ pub normal-fixed : (r : Route) → Neighbours Unjoined r → normalize r ≡ r
 normal-fixed [] h = refl
 normal-fixed (s ∷ r) h = joining-fixed s r h
 
+-- For the reader: a normal form is its own normal form
 pub twice : (r : Route) → Filled r → normalize (normalize r) ≡ normalize r
 twice r f = normal-fixed (normalize r) (normal r f)
 
@@ -180,6 +170,7 @@ joining-covers l x s (t ∷ r) f =
     go true e ih n = joint (joins s t e) (ih (joins s t e))
     go false e ih n = (λ c. ⊎-elim inl (λ a. inr (n .0 a)) c, λ c. ⊎-elim inl (λ a. inr (n .1 a)) c)
 
+-- For the reader: the normal form covers the bases that the route as given covers, no more and no fewer
 pub same-bases : (r : Route) → Filled r → (l x : ℕ) → Covers (normalize r) l x ↔ Covers r l x
 same-bases [] f l x = (λ c. c, λ c. c)
 same-bases (s ∷ r) f l x = joining-covers l x s r f

@@ -1,24 +1,24 @@
 -- At most one port of a lane stands at a cut in an orientation; and words are compared rightly.
-use Prim.Native.Nat.{ℕ, zero, suc, _+_, _-_, _*_, _/_, _≤_, _<_}
+use Prim.Native.Nat.{ℕ, _+_, _-_, _*_, _/_, _<_}
 use native.Mathlib.Omega.{arith}
 use native.Mathlib.Decide.{decLt}
-use mathlib.Core.Path.{_≡_, refl, sym, ap, ap₂, _∙_, subst}
-use mathlib.Core.Logic.{_⊎_, inl, inr, ⊎-elim, _↔_}
-use mathlib.Core.Bool.{Bool, true, false, _&&_, true≢false}
+use mathlib.Core.Path.{_≡_, refl, sym, ap, _∙_, subst}
+use mathlib.Core.Logic.{_⊎_, inl, inr}
+use mathlib.Core.Bool.{Bool, true, false, true≢false}
 use mathlib.Core.List.{List, [], _∷_, List·Memᴰ, List·Memᴰ·head, List·Memᴰ·tail, List·Memᴰ·not-nil, List·Memᴰ·cases-cons}
 use lib.Dec.{ltb, eqb}
-use lib.ListN.{length, getD, List·getD-eq-default}
-use borrow.Author.Tests.{eq-eqb, eqb-true, ltb-true, ltb-false, le-ltb}
-use Rattle.ground.specs.Lists.{pick, keep, consIf, all, after, rising, split}
+use lib.ListN.{length, List·getD-eq-default}
+use borrow.Author.Tests.{eq-eqb, eqb-true, ltb-true}
+use Rattle.ground.specs.Lists.{pick, keep, consIf, after, rising, split}
 use Rattle.ground.proofs.ListLaws.{both, all-at}
-use Rattle.storage.specs.Records.{cutAs, cutOf, sameTurn, standsAt}
+use Rattle.storage.specs.Records.{cutOf, sameTurn, standsAt}
 use Rattle.storage.specs.Orders.{wordOrder, sameWord, turn, placeOf, place, placeLt}
 use Rattle.storage.proofs.OrderLaws.{word-same, word-self, equal-of}
 use Rattle.storage.specs.declared.Port.{Port}
 use Rattle.image.specs.declared.Header.{Header}
 use Rattle.image.specs.Image.{counts, lanePorts, portsOf}
 use Rattle.image.specs.Inner.{Framed}
-use Rattle.image.specs.Panel.{Panel, PanelLane, panelOf, noLane, laneAt}
+use Rattle.image.specs.Panel.{Panel, panelOf, noLane, laneAt}
 use Rattle.image.proofs.Laws.{rows-length, panel-ports}
 use Rattle.panel.specs.Refusals.{laneRising, lanesRising}
 use Rattle.panel.specs.Inner.{Accepted}

@@ -1,10 +1,9 @@
 -- An assignment to words and back, and words to an assignment and back.
 use mathlib.Core.Path.{_≡_, refl, sym, ap, ap₂, _∙_, subst}
-use mathlib.Core.Bool.{Bool, true, false, true≢false}
+use mathlib.Core.Bool.{Bool, true, false}
 use mathlib.Core.List.{List, [], _∷_, _++_, append-nil, append-assoc}
 use Prim.Native.Nat.{ℕ, zero, suc}
 use lib.ListN.{length}
-use Rattle.evaluate.specs.declared.Segment.{Segment}
 use Rattle.evaluate.specs.Segments.{Route, Assignment}
 use Rattle.evaluate.specs.Words.{bit, segmentWords, routeWords, encode, Read, malformed, got, before, turned, readSegments, thenRoutes, readRoutes, ofFamily, readAssignment, allOf, decode}
 
@@ -93,5 +92,6 @@ decode-says (f ∷ n ∷ ws) = go (readRoutes n ws) (routes-say n ws)
     go (got rs []) h = (ap₂ (λ (x : ℕ) (t : List ℕ). f ∷ x ∷ t) (h .1) (sym (append-nil (routeWords rs)) ∙ h .0), refl)
     go (got rs (u ∷ us)) h = tt
 
+-- For the reader: words that hold an assignment are the words of that assignment
 pub encode-decode : (ws us : List ℕ) (a : Assignment) → decode ws ≡ got a us → encode a ≡ ws
 encode-decode ws us a e = subst (Whole ws) e (decode-says ws) .0

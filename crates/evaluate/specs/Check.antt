@@ -1,12 +1,12 @@
 -- The assignment check: refusals 21 to 31 with their places and their order, and what it writes (01, "Refusal numbers", "Legal assignments").
-use Prim.Native.Nat.{ℕ, zero, suc}
+use Prim.Native.Nat.{ℕ, suc}
 use mathlib.Core.Bool.{Bool, true, false, not, _&&_}
-use mathlib.Core.List.{List, [], _∷_, _++_, map}
+use mathlib.Core.List.{List, [], _∷_, _++_}
 use lib.Dec.{leb, ltb, eqb}
 use lib.ListN.{length, drop}
 use Rattle.ground.specs.Lists.{pick, all}
 use Rattle.storage.specs.declared.Port.{Port}
-use Rattle.image.specs.Panel.{Panel, PanelLane, panelOf, laneAt, pathsAt}
+use Rattle.image.specs.Panel.{Panel, panelOf, laneAt, pathsAt}
 use Rattle.evaluate.specs.declared.Segment.{Segment}
 use Rattle.evaluate.specs.declared.Refusal.{Refusal}
 use Rattle.evaluate.specs.declared.AssignmentReply.{AssignmentReply}

@@ -1,11 +1,10 @@
 -- Legal assignments, as 01's section of that name states them.
 use Prim.Native.Nat.{ℕ, _<_}
 use mathlib.Core.Path.{_≡_}
-use mathlib.Core.Bool.{Bool, true, false}
-use mathlib.Core.List.{List, [], _∷_}
+use mathlib.Core.Bool.{false}
 use lib.ListN.{length}
 use Rattle.storage.specs.declared.Port.{Port}
-use Rattle.image.specs.Panel.{Panel, PanelLane, laneAt, pathsAt}
+use Rattle.image.specs.Panel.{Panel, laneAt, pathsAt}
 use Rattle.evaluate.specs.declared.Segment.{Segment}
 use Rattle.evaluate.specs.Properties.{Each, Pairs, Neighbours, First, Last, Matched}
 use Rattle.evaluate.specs.Segments.{Route, Assignment, entry, exit, SoundSpan, Unjoined, Share, flat}

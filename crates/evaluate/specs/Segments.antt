@@ -1,5 +1,5 @@
 -- Segments, routes and assignments, sound spans, normal form, and shared bases (01, "Legal assignments").
-use Prim.Native.Nat.{ℕ, zero, suc, _≤_, _<_, min, max}
+use Prim.Native.Nat.{ℕ, _≤_, _<_, min, max}
 use mathlib.Core.Path.{_≡_}
 use mathlib.Core.Bool.{Bool, true, false, not, _&&_}
 use mathlib.Core.List.{List, [], _∷_, _++_, map}
@@ -7,7 +7,7 @@ use lib.Dec.{leb, ltb, eqb}
 use lib.ListN.{length}
 use Rattle.ground.specs.Lists.{pick, all}
 use Rattle.storage.specs.Records.{sameTurn}
-use Rattle.image.specs.Panel.{Panel, PanelLane, laneAt, pathsAt}
+use Rattle.image.specs.Panel.{Panel, laneAt, pathsAt}
 use Rattle.evaluate.specs.declared.Segment.{Segment}
 
 -- a route: its segments in order

@@ -1,10 +1,10 @@
 -- The assignment check computed on panel E: what is accepted, and each of 21 to 31 with its place.
-use Prim.Native.Nat.{ℕ, zero, suc, _+_, _*_, _-_, _/_, min, max}
+use Prim.Native.Nat.{ℕ}
 use mathlib.Core.Path.{_≡_, refl}
-use mathlib.Core.Bool.{Bool, true, false}
-use mathlib.Core.List.{List, [], _∷_, _++_}
+use mathlib.Core.Bool.{true, false}
+use mathlib.Core.List.{List, [], _∷_}
 use lib.Dec.{leb}
-use lib.ListN.{length, take, replicate}
+use lib.ListN.{length, replicate}
 use Rattle.ground.specs.Lists.{each, split, sum, all, any, count, keep, after, rising, numbersFrom, distinct}
 use Rattle.storage.specs.Bytes.{little, number}
 use Rattle.storage.specs.Records.{portOf, standsAt}
@@ -17,12 +17,11 @@ use Rattle.panel.specs.Refusals.{lengthOk, sound4, letter, soundPlace, soundRec
 use Rattle.storage.specs.Orders.{placeOf, placeLt, recordLt, samePort}
 use Rattle.graph.specs.Check.{portsChecked, later, checked}
 use Rattle.graph.specs.PanelE.{panelE}
-use Rattle.evaluate.specs.declared.Segment.{Segment}
 use Rattle.evaluate.specs.declared.AssignmentReply.{AssignmentReply}
 use Rattle.evaluate.specs.declared.Refusal.{Refusal}
 use Rattle.graph.specs.Check.{panelRefusal}
-use Rattle.evaluate.specs.Segments.{Route, joining, normalize, overlap, apart}
-use Rattle.graph.specs.Lookups.{portsAt, bucketLo, bucketHi}
+use Rattle.evaluate.specs.Segments.{joining, apart}
+use Rattle.graph.specs.Lookups.{portsAt}
 use Rattle.evaluate.specs.Words.{encode, readSegments, readRoutes, readAssignment, decode}
 use Rattle.evaluate.specs.Check.{mostWords, leaves, jointRefusal, jointsRefusal, normalRefusal, routeRefusal, routesRefusal, overlapRefusal, assignmentRefusal, wordsRefusal, checkRefusal, normalWords, checkAnswer, checkOut}
 

@@ -1,7 +1,6 @@
 use Prim.Native.Nat.{ℕ, _+_, _≤_, _<_}
-use native.Mathlib.Omega.{arith}
 use mathlib.Core.Path.{_≡_, refl, sym, ap, _∙_}
-use mathlib.Core.Bool.{Bool, true, false, _&&_}
+use mathlib.Core.Bool.{Bool, true, false}
 use mathlib.Core.List.{List, []}
 use lib.Dec.{eqb}
 use lib.ListN.{length, drop, take, getD}
@@ -10,9 +9,9 @@ use Rattle.ground.specs.Lists.{sum, all, any}
 use Rattle.ground.proofs.ListLaws.{both, AnyFrom, AllFrom, all-again, all-fails}
 use Rattle.image.specs.declared.Header.{Header}
 use Rattle.image.specs.declared.Family.{Family}
-use Rattle.image.specs.Image.{pathCounts, paths, families, pathsOf}
-use Rattle.image.specs.Inner.{Framed, Grouped, Groups}
-use Rattle.families.specs.Families.{countOk, names, noTwice, sound5a, sound5b, sound5}
+use Rattle.image.specs.Image.{pathCounts, families, pathsOf}
+use Rattle.image.specs.Inner.{Framed, Grouped}
+use Rattle.families.specs.Families.{countOk, noTwice, sound5a, sound5b, sound5}
 
 pub any-start : {A : Type 0} (f : A → Bool) (l : List A) (b n : ℕ) → b ≤ n → AnyFrom f l b n b
 any-start f l b n h = record { within = h; todo = refl }

@@ -1,6 +1,6 @@
 -- Refusal 5 of a panel image.
 use Prim.Native.Nat.{ℕ}
-use mathlib.Core.Bool.{Bool, true, false, _&&_}
+use mathlib.Core.Bool.{Bool, _&&_}
 use mathlib.Core.List.{List}
 use lib.Dec.{ltb, eqb}
 use Rattle.ground.specs.Lists.{sum, all, distinct}

@@ -1,10 +1,8 @@
 // The panel check: refusal 5.
 ghost use mathlib.Core.Path.{_≡_};
-ghost use Prim.Native.Nat.{ℕ, _+_, _≤_, _<_};
-ghost use mathlib.Core.Bool.{Bool, true, _&&_};
-ghost use mathlib.Core.List.{[]};
-ghost use lib.Dec.{leb, eqb};
-ghost use lib.ListN.{length, drop, getD};
+ghost use Prim.Native.Nat.{_+_, _≤_, _<_};
+ghost use lib.Dec.{eqb};
+ghost use lib.ListN.{drop, getD};
 ghost use Rattle.ground.specs.Lists.{sum, all, any};
 ghost use Rattle.image.specs.Image.{pathCounts, paths, families, pathsOf};
 ghost use Rattle.image.specs.Inner.{Framed, Grouped, Groups};

@@ -2,9 +2,9 @@
 use Prim.Native.Nat.{ℕ, zero, suc, _+_, _-_, _*_, _≤_, _<_}
 use native.Mathlib.Nat.{add-zero, add-suc, not-suc-le-zero, eq-or-lt-of-le}
 use native.Mathlib.Omega.{arith}
-use native.Mathlib.Numerals.{add-one, add-two, add-eight, towards-suc}
+use native.Mathlib.Numerals.{add-one, add-eight, towards-suc}
 use mathlib.Core.Path.{_≡_, refl, sym, ap, ap₂, _∙_}
-use mathlib.Core.Bool.{Bool, true, false, not, _&&_}
+use mathlib.Core.Bool.{Bool, true, false, not}
 use mathlib.Core.Logic.{_⊎_, inl, inr}
 use mathlib.Core.List.{List, [], _∷_, _++_, append-assoc, append-nil}
 use lib.Dec.{eqb, ltb, leb}
@@ -13,13 +13,13 @@ use lib.Seq.{sets-eq, sets, take-add, drop-cons, length-sets, getD-at, drop-drop
 use borrow.Author.Tests.{eq-eqb, ne-eqb, lt-ltb, le-ltb, le-leb, lt-leb, ltb-true, ltb-false}
 use Rattle.ground.specs.Lists.{all}
 use Rattle.evaluate.specs.declared.Segment.{Segment}
-use Rattle.evaluate.specs.Segments.{Route, flat, overlap, clear}
+use Rattle.evaluate.specs.Segments.{Route, flat, clear}
 use Rattle.evaluate.specs.Words.{bit}
-use Rattle.search.specs.Walk.{Place, Frame, onPath}
+use Rattle.search.specs.Walk.{Frame, onPath}
 use Rattle.search.specs.Rooms.{frameWidth, pieceHere, frameWords, stackWords}
 use Rattle.frames.specs.declared.Stored.{Stored}
-use Rattle.frames.specs.Inner.{storedWords, put, storedAt, Path, noPath, pieceFrom, longer, pathTo, pathAt, pieceAt, pieces, noSegment, apartFrom, placeWith, frameWith, frameOf, stackOf, Linked, Alike}
-use Rattle.frames.proofs.Sets.{getD-sets-lt, getD-sets-ge, getD-sets-in, drop-sets, take-sets}
+use Rattle.frames.specs.Inner.{storedWords, put, storedAt, Path, noPath, pieceFrom, pathTo, pathAt, pieceAt, pieces, noSegment, apartFrom, placeWith, frameWith, frameOf, stackOf, Linked, Alike}
+use Rattle.frames.proofs.Sets.{getD-sets-lt, getD-sets-in, drop-sets, take-sets}
 
 -- ---- one frame
 

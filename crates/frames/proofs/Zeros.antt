@@ -1,11 +1,11 @@
 -- A run of zeros in a list, one store at a time.
-use mathlib.Core.Path.{_≡_, refl, sym, ap, ap₂, _∙_}
+use mathlib.Core.Path.{_≡_, sym, _∙_}
 use mathlib.Core.List.{List, [], _∷_, _++_, append-assoc}
-use Prim.Native.Nat.{ℕ, zero, suc, _+_, _-_, _*_, _≤_, _<_}
+use Prim.Native.Nat.{ℕ, suc, _+_, _-_, _≤_, _<_}
 use native.Mathlib.Omega.{arith}
 use native.Mathlib.Numerals.{add-one}
-use lib.ListN.{length, getD, set, take, drop, replicate, length-append, length-replicate, replicate-append-replicate, take-append-drop, length-drop}
-use lib.Seq.{set-at, drop-cons, length-take-le, append-snoc}
+use lib.ListN.{length, getD, set, take, drop, replicate, length-append, length-replicate, replicate-append-replicate, take-append-drop}
+use lib.Seq.{set-at, drop-cons, length-take-le}
 
 -- xs with its words from a up to i zeroed
 unfoldable pub zeroed : List ℕ → ℕ → ℕ → List ℕ
@@ -27,12 +27,6 @@ zeroed-more xs a i h l =
     let n : i + 1 - a ≡ i - a + 1 = omega arith in
     let r : _≡_ {A = List ℕ} (replicate (i + 1 - a) 0) (replicate (i - a) 0 ++ (0 ∷ [])) = rw n (sym (replicate-append-replicate (i - a) 1 0)) in
     rw (r, add-one, ← append-assoc (take a xs) (replicate (i - a) 0) (drop i xs), drop-cons xs i 0 l, set-at p (getD xs i 0) q 0 i lp) (simp append-assoc)
-
-pub length-zeroed : (xs : List ℕ) (a i : ℕ) → a ≤ i → i ≤ length xs → length (zeroed xs a i) ≡ length xs
-unfolding zeroed
-length-zeroed xs a i h l =
-    let la : length (take a xs) ≡ a = length-take-le a xs (omega arith) in
-    simp (length-append, la, length-replicate, length-drop) (omega arith)
 
 pub zeroed-done : (xs ys : List ℕ) (a b i : ℕ) → ys ≡ zeroed xs a i → i ≤ b → b ≤ i → ys ≡ take a xs ++ (replicate (b - a) 0 ++ drop b xs)
 unfolding zeroed

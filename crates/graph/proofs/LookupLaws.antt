@@ -1,10 +1,10 @@
 -- Laws of the port at a cut and of the bucket.
 use Prim.Native.Nat.{ℕ, _+_, _-_, _≤_, _<_, _^_}
 use native.Mathlib.Omega.{arith}
-use mathlib.Core.Path.{_≡_, refl, sym, ap, _∙_}
+use mathlib.Core.Path.{_≡_, refl, _∙_}
 use mathlib.Core.Bool.{Bool, true, false, _&&_}
 use mathlib.Core.List.{List, []}
-use lib.Dec.{ltb, eqb}
+use lib.Dec.{ltb}
 use lib.ListN.{length, drop, getD}
 use borrow.Author.Tests.{lt-ltb, le-ltb, eq-eqb, ne-eqb}
 use Rattle.ground.specs.Lists.{each, keep, count, consIf}
@@ -21,17 +21,15 @@ use Rattle.image.specs.declared.Opened.{Opened}
 use Rattle.image.specs.declared.Opened.the-variants.{Good, Refused}
 use Rattle.image.specs.Image.{portsOf, hub}
 use Rattle.image.specs.Inner.{Framed, Stands}
-use Rattle.image.specs.Panel.{Panel, panelOf, laneAt}
+use Rattle.image.specs.Panel.{panelOf}
 use Rattle.image.proofs.Laws.{panel-ports, panel-hub, panel-k, row-length, hub-stands}
 use Rattle.panel.specs.Inner.{Accepted}
 use Rattle.panel.specs.Refusals.{hubRising}
 use Rattle.panel.proofs.Laws.{row-rises, lane-rises, lane-port-small}
 use Rattle.graph.specs.Check.{checked}
-use Rattle.graph.specs.Lookups.{without, found, portsAt, portIn, portBy, portAnswer, bucketIn, bucketBy, bucketAnswer}
-use Rattle.graph.specs.declared.Found.{Found}
+use Rattle.graph.specs.Lookups.{without, found, portsAt, portIn, portAnswer, bucketAnswer}
 use Rattle.graph.specs.declared.Found.the-variants.{Unsound, NoLane, NoPort, Here}
 use Rattle.graph.specs.declared.PortAnswer.{PortAnswer}
-use Rattle.graph.specs.declared.BucketAnswer.{BucketAnswer}
 use Rattle.graph.specs.declared.BucketAnswer.the-variants.{BadPanel, BadWord, Bucket}
 
 -- the lane's list that the code reads is the panel's

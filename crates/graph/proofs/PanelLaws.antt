@@ -1,28 +1,28 @@
 -- What holds of the panel of an accepted image, over the panel's own lists.
-use Prim.Native.Nat.{ℕ, _+_, _-_, _/_, _≤_, _<_}
+use Prim.Native.Nat.{ℕ, _+_, _≤_, _<_}
 use native.Mathlib.Omega.{arith}
 use native.Mathlib.Decide.{decLt}
 use mathlib.Core.Path.{_≡_, refl, sym, ap, subst, _∙_}
-use mathlib.Core.Bool.{Bool, true, false, _&&_}
-use mathlib.Core.List.{List, [], _∷_, List·Memᴰ, List·Memᴰ·not-nil, Memᴰ·cast}
-use lib.Dec.{ltb, leb, eqb}
+use mathlib.Core.Bool.{Bool, true}
+use mathlib.Core.List.{List, [], List·Memᴰ, List·Memᴰ·not-nil, Memᴰ·cast}
+use lib.Dec.{ltb, leb}
 use lib.ListN.{length, getD, List·getD-eq-default}
-use borrow.Author.Tests.{eqb-true, ltb-true, leb-true}
+use borrow.Author.Tests.{eqb-true, leb-true}
 use Rattle.ground.specs.Lists.{split, all, rising, numbersFrom}
 use Rattle.ground.proofs.ListLaws.{both, all-at, numbers-at}
-use Rattle.ground.proofs.Members.{all-mem, any-mem, Index, index-of, mem-at, mem-part, rising-apart, pigeon}
-use Rattle.storage.specs.Records.{noPort, cutOffset, cutAs}
-use Rattle.storage.specs.Orders.{placeOf, place, placeLt, recordLt, samePort, turn}
+use Rattle.ground.proofs.Members.{all-mem, any-mem, index-of, mem-part, rising-apart, pigeon}
+use Rattle.storage.specs.Records.{noPort, cutAs}
+use Rattle.storage.specs.Orders.{placeOf, placeLt, recordLt, samePort}
 use Rattle.storage.specs.declared.Port.{Port}
 use Rattle.storage.proofs.OrderLaws.{record-chain, record-self, port-same, turn-small}
 use Rattle.image.specs.declared.Header.{Header}
 use Rattle.image.specs.declared.Lane.{Lane}
 use Rattle.image.specs.Image.{entries, noEntry, counts, lanePorts, portsOf, startOf, hub}
 use Rattle.image.specs.Inner.{Framed, Stands}
-use Rattle.image.specs.Panel.{Panel, panelOf, laneAt, noLane}
+use Rattle.image.specs.Panel.{panelOf, laneAt, noLane}
 use Rattle.image.proofs.Laws.{panel-ports, panel-hub, panel-k, panel-lanes, panel-entry, row-length, rows-length, hub-length, lane-ports-length}
 use Rattle.panel.specs.Inner.{Accepted}
-use Rattle.panel.specs.Refusals.{soundPlace, soundPort, from, ownRow, ownRows, laneRising, lanesRising, hubRising, listed, sound8}
+use Rattle.panel.specs.Refusals.{soundPlace, from, ownRow, ownRows, laneRising, hubRising, listed, sound8}
 use Rattle.panel.proofs.Laws.{row-rises, lane-rises, lane-port-sound, lanes-numbers}
 
 module _ (s : List ℕ) (h : Header) (acc : Accepted s h) where
@@ -87,7 +87,7 @@ module _ (s : List ℕ) (h : Header) (acc : Accepted s h) where
   unfolding laneRising laneOf
   lane-row-rises l lt = ap (rising placeLt) (ports-of l lt) ∙ row-rises s h (laneOf l) (stands l lt) (acc .rows)
 
-  -- so by one orientation's formula its cuts do not fall
+  -- For the reader: so by one orientation's formula a lane's cuts do not fall
   pub cuts-rise : (l : ℕ) → l < h .lanes → (reverse : Bool) (i j : ℕ) → i < j → j < length (laneAt (panelOf s) l .ports)
       → cutAs (panelOf s .k) reverse (getD (laneAt (panelOf s) l .ports) i noPort .anchor) ≤ cutAs (panelOf s .k) reverse (getD (laneAt (panelOf s) l .ports) j noPort .anchor)
   unfolding placeOf laneRising

@@ -1,6 +1,6 @@
 -- The port at a cut and the hub bucket (01, "Ports and buckets"; refusals 9 and 10).
-use Prim.Native.Nat.{ℕ, _<_}
-use mathlib.Core.Bool.{Bool, true, false}
+use Prim.Native.Nat.{ℕ}
+use mathlib.Core.Bool.{Bool}
 use mathlib.Core.Path.{_≡_}
 use mathlib.Core.List.{List, [], _∷_, List·Memᴰ}
 use lib.Dec.{ltb, eqb}
@@ -9,7 +9,6 @@ use Rattle.ground.specs.Lists.{pick, keep}
 use Rattle.storage.specs.Records.{cutOf, noPort, padded, standsAt}
 use Rattle.storage.specs.Orders.{bucketOf}
 use Rattle.storage.specs.declared.Port.{Port}
-use Rattle.storage.specs.declared.Members.{Members}
 use Rattle.image.specs.declared.Header.{Header}
 use Rattle.image.specs.declared.Opened.{Opened}
 use Rattle.image.specs.declared.Opened.the-variants.{Good, Refused}
@@ -77,8 +76,3 @@ bucketBy (Refused n) s word = BadPanel n
 -- the answer of the hub bucket: 1 to 8 first
 unfoldable pub bucketAnswer : List ℕ → List ℕ → BucketAnswer
 bucketAnswer s word = bucketBy (checked s) s word
-
-abbrev pub bucketRefusal : BucketAnswer → ℕ
-bucketRefusal (BadPanel n) = n
-bucketRefusal BadWord = 10
-bucketRefusal (Bucket b) = 0

@@ -1,7 +1,7 @@
 -- Panel E of 01, "The program": k 2; two lanes of length 10 with identities 0 and 1; family 0 is lane 0;
 -- forward ports AC at anchors 3 (lane 0) and 5 (lane 1), GG at 6 (lane 0) and 7 (lane 1).
 use Prim.Native.Nat.{ℕ}
-use mathlib.Core.List.{List, [], _∷_, _++_}
+use mathlib.Core.List.{List, [], _∷_}
 
 -- eight bytes of a number below 256
 abbrev word : ℕ → List ℕ → List ℕ

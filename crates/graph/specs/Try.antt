@@ -1,16 +1,12 @@
 -- Panel E is accepted, and edits of one byte are refused, each of 1 to 8 among them.
-use Prim.Native.Nat.{ℕ, zero, suc, _+_, _*_, _-_, _/_}
+use Prim.Native.Nat.{ℕ}
 use mathlib.Core.Path.{_≡_, refl}
-use mathlib.Core.Bool.{Bool, true, false}
-use mathlib.Core.List.{List, [], _∷_}
-use lib.ListN.{set, take, length}
+use mathlib.Core.List.{[], _∷_}
+use lib.ListN.{set, take}
 use Rattle.storage.specs.Bytes.{little, number}
 use Rattle.ground.specs.Lists.{each, split, sum, all, any, count, after, rising, numbersFrom, distinct}
 use Rattle.storage.specs.Records.{portOf}
 use Rattle.storage.specs.Orders.{wordOrder, portOrder}
-use Rattle.image.specs.declared.Header.{Header}
-use Rattle.image.specs.declared.Opened.{Opened}
-use Rattle.image.specs.declared.Opened.the-variants.{Good, Refused}
 use Rattle.image.specs.Header.{headerOf, sound2, sound3, opened}
 use Rattle.image.specs.Image.{entryOf, entries, counts, pathCounts, paths, lanePorts, hub, portsOf, startOf, families, pathsOf}
 use Rattle.families.specs.Families.{countOk, names, noTwice, sound5a, sound5b, sound5}

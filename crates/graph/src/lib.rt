@@ -1,6 +1,5 @@
 // The panel check whole, the port at a cut and the hub bucket.
 ghost use mathlib.Core.Path.{_≡_};
-ghost use Prim.Native.Nat.{ℕ, _<_, _≤_};
 ghost use lib.ListN.{length};
 ghost use Rattle.storage.specs.Records.{padded};
 ghost use Rattle.storage.specs.Orders.{bucketOf};

@@ -8,11 +8,11 @@ use mathlib.Core.Path.{_≡_, refl, sym, ap, _∙_}
 use mathlib.Core.Bool.{Bool, true, false, not, _&&_, _||_, or-false}
 use mathlib.Core.List.{List, [], _∷_}
 use lib.ListN.{length, take, drop, getD, drop-of-length-le, length-drop}
-use lib.Dec.{eqb, ltb, leb}
+use lib.Dec.{eqb, ltb}
 use native.Mathlib.Decide.{decLt}
-use borrow.Author.Tests.{eq-eqb, ne-eqb, eqb-true, eqb-false, lt-ltb, le-ltb, ltb-true}
+use borrow.Author.Tests.{eq-eqb, ne-eqb, eqb-true, eqb-false, lt-ltb, le-ltb}
 use lib.Seq.{drop-drop, getD-drop, getD-take, drop-cons, length-take-le}
-use Rattle.ground.specs.Lists.{each, split, sum, all, any, count, after, rising, oneMoreIf, consIf, keep, numbersFrom, distinct}
+use Rattle.ground.specs.Lists.{each, split, sum, all, any, count, after, rising, consIf, keep, numbersFrom, distinct}
 use mir.Val.{Fits}
 use mir.Syntax.{w64}
 use borrow.Author.Needs.{fits-under}
@@ -98,12 +98,6 @@ module _ {A : Type 0} (d : A) where
   pub all-done : (f : A → Bool) (l : List A) (i : ℕ) → length l ≤ i → all f (drop i l) ≡ true
   unfolding all
   all-done f l i h =
-      let none : drop i l ≡ [] = drop-of-length-le l {i = i} h in
-      rw none
-
-  pub after-done : (f : A → A → Bool) (a : A) (l : List A) (i : ℕ) → length l ≤ i → after f a (drop i l) ≡ true
-  unfolding after
-  after-done f a l i h =
       let none : drop i l ≡ [] = drop-of-length-le l {i = i} h in
       rw none
 
@@ -500,71 +494,3 @@ unfolding distinct
 distinct-ends same l n i so le long =
     let none : drop i l ≡ [] = drop-of-length-le l {i = i} (omega arith) in
     sym (so .todo ∙ rw none)
-
--- ---- where an element of a list in parts stands
-
-pub record At (ns : List ℕ) (p : ℕ) : Type 0 where
-  pub j : ℕ
-  pub i : ℕ
-  pub place : p ≡ sum (take j ns) + i
-  pub inside : i < getD ns j 0
-  pub low : j < length ns
-
-pub locate : (ns : List ℕ) (p : ℕ) → p < sum ns → At ns p
-unfolding sum
-locate [] p h = absurd (not-suc-le-zero h)
-locate (n ∷ ns) p h = go (decLt p n) (λ lt. locate ns (p - n) lt)
-  where
-    go : Dec (p < n) → (p - n < sum ns → At ns (p - n)) → At (n ∷ ns) p
-    go (yes l) rest = record { j = 0; i = p; place = omega arith; inside = l; low = omega arith }
-    go (no f) rest =
-        let a = rest (omega arith) in
-        record { j = suc (a .j); i = a .i; place = (let e = a .place in omega arith); inside = a .inside; low = (let e = a .low in omega arith) }
-
-pub sum-take-mono : (ns : List ℕ) (a b : ℕ) → a ≤ b → sum (take a ns) ≤ sum (take b ns)
-unfolding sum
-sum-take-mono [] zero b h = omega arith
-sum-take-mono [] (suc a) b h = omega arith
-sum-take-mono (n ∷ ns) zero b h = omega arith
-sum-take-mono (n ∷ ns) (suc a) zero h = absurd (not-suc-le-zero h)
-sum-take-mono (n ∷ ns) (suc a) (suc b) h = let r = sum-take-mono ns a b (omega arith) in omega arith
-
--- a list whose part j holds only elements of key j: those of a lower key are those of the parts before
-module _ {A : Type 0} (key : A → ℕ) (before : A → Bool) (lane : ℕ) (is : (a : A) → before a ≡ ltb (key a) lane) (ns : List ℕ) (l : List A) (d : A) (total : sum ns ≡ length l)
-    (own : (j i : ℕ) → j < length ns → i < getD ns j 0 → key (getD l (sum (take j ns) + i) d) ≡ j) where
-  own-key : (p : ℕ) (h : p < length l) (a : At ns p) → key (getD l p d) ≡ a .j
-  own-key p h a = ap (λ (q : ℕ). key (getD l q d)) (a .place) ∙ own (a .j) (a .i) (a .low) (a .inside)
-
-  pub before-low : (p : ℕ) → p < length l → p < sum (take lane ns) → before (getD l p d) ≡ true
-  before-low p h lt =
-      let a = locate ns p (omega arith) in
-      go a (own-key p h a) (decLt (a .j) lane)
-    where
-      go : (a : At ns p) → key (getD l p d) ≡ a .j → Dec (a .j < lane) → before (getD l p d) ≡ true
-      go a e (yes m) = is (getD l p d) ∙ lt-ltb (key (getD l p d)) lane (omega arith)
-      go a e (no f) = let m = sum-take-mono ns lane (a .j) (omega arith) in let c = a .place in let z : ⊥ = omega arith in absurd z
-
-  pub before-high : (p : ℕ) → p < length l → sum (take lane ns) ≤ p → before (getD l p d) ≡ false
-  before-high p h le =
-      let a = locate ns p (omega arith) in
-      go a (own-key p h a) (decLt (a .j) lane)
-    where
-      go : (a : At ns p) → key (getD l p d) ≡ a .j → Dec (a .j < lane) → before (getD l p d) ≡ false
-      go a e (no f) = is (getD l p d) ∙ le-ltb (key (getD l p d)) lane (omega arith)
-      go a e (yes m) =
-          let s = sum-take-next ns (a .j) (a .low) in
-          let t = sum-take-mono ns (a .j + 1) lane (omega arith) in
-          let c = a .place in
-          let i = a .inside in
-          let z : ⊥ = omega arith in
-          absurd z
-
-  pub starts : sum (take lane ns) ≡ count before l
-  starts = count-is before l d (sum (take lane ns)) (let m = sum-take-le ns lane in omega arith) (λ p h. before-low p (let m = sum-take-le ns lane in omega arith) h) (λ q h m. before-high q m h)
-
-  pub starts-falls : Falls before l d
-  starts-falls p q le m e = go (decLt q (sum (take lane ns)))
-    where
-      go : Dec (q < sum (take lane ns)) → before (getD l p d) ≡ true
-      go (yes h) = before-low p (omega arith) (omega arith)
-      go (no f) = cc (before-high q m (omega arith))

@@ -1,10 +1,10 @@
 -- Laws of the header and of the lists behind it.
-use Prim.Native.Nat.{ℕ, zero, suc, _+_, _-_, _*_, _≤_, _<_}
+use Prim.Native.Nat.{ℕ, zero, suc, _+_, _*_, _≤_, _<_}
 use native.Mathlib.Nat.{not-suc-le-zero, mul-le-mul-right}
 use native.Mathlib.Omega.{arith}
 use mathlib.Core.Path.{_≡_, refl, sym, ap, _∙_}
-use mathlib.Core.Bool.{Bool, true, false, not, _&&_}
-use mathlib.Core.List.{List, [], _∷_, map}
+use mathlib.Core.Bool.{Bool, true, false, _&&_}
+use mathlib.Core.List.{List, [], _∷_}
 use lib.Dec.{leb, eqb}
 use lib.ListN.{length, drop, take, getD, set, replicate, length-set, length-replicate, List·getD-map, length-map}
 use lib.Seq.{drop-drop, getD-set-same, getD-set-other}
@@ -20,17 +20,16 @@ use Rattle.storage.specs.Inner.{Records, Offset}
 use Rattle.storage.specs.Orders.{samePort, placeLt, placeBefore}
 use Rattle.storage.proofs.Laws.{record-is}
 use Rattle.storage.specs.declared.Port.{Port}
-use Rattle.ground.proofs.ListLaws.{both, each-length, each-at, each-from, place-fits, split-at, SumTo, sum-to-start, sum-to-next, sum-to-fits, sum-take-next, sum-take-le, sum-part-le, splits, split-length}
+use Rattle.ground.proofs.ListLaws.{both, each-length, each-from, split-at, SumTo, sum-to-start, sum-to-next, sum-to-fits, sum-take-next, sum-part-le, splits, split-length}
 use Rattle.image.specs.declared.Header.{Header}
 use Rattle.image.specs.declared.Entry.{Entry}
 use Rattle.image.specs.declared.Lane.{Lane}
 use Rattle.image.specs.declared.Family.{Family}
-use Rattle.image.specs.declared.Opened.{Opened}
 use Rattle.image.specs.declared.Opened.the-variants.{Good, Refused}
-use Rattle.image.specs.Header.{headerOf, sound1, sound2, sound3, opened, orRefuse, Bounds, endPlace, hubPlace, lanePortsPlace, pathsPlace, familiesPlace}
+use Rattle.image.specs.Header.{headerOf, sound2, sound3, opened, Bounds, endPlace, hubPlace, lanePortsPlace, pathsPlace, familiesPlace}
 use Rattle.image.specs.Image.{entryOf, entries, counts, countOf, noEntry, lanePorts, hub, portsOf, startOf, paths, pathCounts, families, pathsOf}
 use Rattle.image.specs.Inner.{Framed, Counted, Started, Stands, Grouped, Groups}
-use Rattle.image.specs.Panel.{PanelLane, Panel, noLane, zipLanes, panelBy, panelOf}
+use Rattle.image.specs.Panel.{noLane, zipLanes, panelBy, panelOf}
 use Rattle.storage.specs.Records.{noPort}
 
 -- ---- refusals 1 to 3

@@ -1,18 +1,14 @@
 -- The lists that an image holds, by its header (01, "Panel image").
-use Prim.Native.Nat.{ℕ, _+_, _*_, _≤_, _<_}
-use mathlib.Core.Path.{_≡_}
+use Prim.Native.Nat.{ℕ}
 use mathlib.Core.List.{List, [], map}
-use lib.ListN.{length, drop, take, getD}
+use lib.ListN.{drop, take, getD}
 use Rattle.ground.specs.Lists.{each, split, sum}
 use Rattle.storage.specs.Bytes.{number}
-use Rattle.storage.specs.Records.{portOf, recordSize, longestWord}
+use Rattle.storage.specs.Records.{portOf, recordSize}
 use Rattle.storage.specs.declared.Port.{Port}
-use Rattle.image.specs.Sizes.{wordSize, headerSize, entrySize, mostLanes, mostFamilies, mostPaths, mostPorts}
-use Rattle.image.specs.Header.{headerOf, familiesPlace, pathsPlace, lanePortsPlace, hubPlace, endPlace}
+use Rattle.image.specs.Sizes.{wordSize, entrySize}
 use Rattle.image.specs.declared.Header.{Header}
 use Rattle.image.specs.declared.Entry.{Entry}
-use Rattle.image.specs.declared.Lane.{Lane}
-use Rattle.image.specs.declared.Family.{Family}
 
 -- a lane entry: length, port count, identity
 unfoldable pub entryOf : List ℕ → Entry

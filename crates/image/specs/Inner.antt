@@ -1,5 +1,5 @@
 -- What has been tested of an image, stage by stage: what inner functions ask of their callers.
-use Prim.Native.Nat.{ℕ, _+_, _*_, _≤_, _<_}
+use Prim.Native.Nat.{ℕ, _*_, _≤_, _<_}
 use mathlib.Core.Path.{_≡_}
 use mathlib.Core.List.{List}
 use lib.ListN.{length, take, getD}
@@ -9,7 +9,6 @@ use Rattle.image.specs.Sizes.{headerSize, mostLanes, mostFamilies, mostP
 use Rattle.image.specs.Header.{headerOf, familiesPlace, pathsPlace, lanePortsPlace, hubPlace, endPlace}
 use Rattle.image.specs.Image.{entries, noEntry, counts, pathCounts, startOf}
 use Rattle.image.specs.declared.Header.{Header}
-use Rattle.image.specs.declared.Entry.{Entry}
 use Rattle.image.specs.declared.Lane.{Lane}
 use Rattle.image.specs.declared.Family.{Family}
 

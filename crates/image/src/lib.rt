@@ -1,15 +1,12 @@
 // The header of a panel image, and its lists read at byte offsets.
 ghost use mathlib.Core.Path.{_≡_};
-ghost use Prim.Native.Nat.{ℕ, _+_, _*_, _≤_, _<_};
-ghost use mathlib.Core.Bool.{Bool, true, _&&_};
-ghost use mathlib.Core.List.{[]};
-ghost use lib.Dec.{leb, eqb};
+ghost use Prim.Native.Nat.{_+_, _*_, _≤_, _<_};
 ghost use lib.ListN.{length, drop, take, getD, replicate};
 ghost use Rattle.ground.specs.Lists.{sum, each};
 ghost use Rattle.storage.specs.Orders.{recordLt, samePort, placeLt, placeBefore};
 ghost use Rattle.storage.specs.Bytes.{number};
 ghost use Rattle.image.specs.Header.{headerOf, sound2, sound3, opened, Bounds};
-ghost use Rattle.image.specs.Image.{entryOf, entries, counts, startOf, lanePorts, portsOf, hub, noEntry, paths, pathCounts, pathsOf};
+ghost use Rattle.image.specs.Image.{entryOf, entries, counts, portsOf, hub, noEntry, paths, pathCounts, pathsOf};
 ghost use Rattle.image.specs.Inner.{Framed, Counted, Started, Stands, Grouped, Groups};
 ghost use Rattle.storage.specs.Records.{portOf, noPort, recordSize};
 

@@ -1,19 +1,18 @@
 -- Two assignments are the same exactly when their words are: a run over padded words is the run over assignments.
 use mathlib.Core.Path.{_≡_, refl, sym, subst}
 use mathlib.Core.Bool.{Bool, true, false}
-use mathlib.Core.List.{List, [], map}
 use Prim.Native.Nat.{ℕ, _-_}
 use lib.ListN.{length, replicate}
 use lib.Ieee.{Float}
 use Rattle.evaluate.specs.Segments.{Assignment}
 use Rattle.evaluate.specs.Words.{encode}
 use Rattle.evaluate.proofs.RoundTrips.{encode-apart}
-use Rattle.search.specs.Keep.{Kept, Evaluated, scoreOf, sameAssignment, sameEvaluated, keepOne, keepAll}
+use Rattle.search.specs.Keep.{Kept, Evaluated, scoreOf, sameAssignment, sameEvaluated, keepOne}
 use Rattle.search.specs.Rooms.{padTo, slotWords}
 use Rattle.search.proofs.Same.{list-decides, words-decide, assignments-decide}
 use Rattle.slots.specs.Inner.{heldScore, sameHeld, sameWords}
 use Rattle.kept.specs.Inner.{heldAs, mapKept}
-use Rattle.kept.proofs.Mapped.{keep-one-map, keep-all-map}
+use Rattle.kept.proofs.Mapped.{keep-one-map}
 
 one-answer : (b c : Bool) → (b ≡ true → c ≡ true) → (c ≡ true → b ≡ true) → b ≡ c
 one-answer true c f g = sym (f refl)
@@ -33,7 +32,3 @@ slots-same v d e =
 pub held-one : (v m : ℕ) (width : Float) (t : Kept Evaluated) (e : Evaluated)
     → keepOne heldScore sameHeld m width (mapKept (heldAs v) t) (heldAs v e) ≡ mapKept (heldAs v) (keepOne scoreOf sameEvaluated m width t e)
 held-one v m width t e = keep-one-map (heldAs v) scoreOf heldScore sameEvaluated sameHeld (λ a. refl) (slots-same v) m width t e
-
-pub held-all : (v m : ℕ) (width : Float) (t : Kept Evaluated) (l : List Evaluated)
-    → keepAll heldScore sameHeld m width (mapKept (heldAs v) t) (map (heldAs v) l) ≡ mapKept (heldAs v) (keepAll scoreOf sameEvaluated m width t l)
-held-all v m width t l = keep-all-map (heldAs v) scoreOf heldScore sameEvaluated sameHeld (λ a. refl) (slots-same v) m width t l

@@ -8,7 +8,7 @@ use lib.ListN.{length, length-map}
 use lib.Ieee as Ieee
 use lib.Ieee.{Float}
 use Rattle.ground.specs.Lists.{pick, consIf, keep, any}
-use Rattle.search.specs.Keep.{Kept, tiedTo, tiesTo, lowers, near, has, lowered, adding, replaced, added, keepOne, keepAll}
+use Rattle.search.specs.Keep.{Kept, tiedTo, tiesTo, lowers, near, has, lowered, adding, replaced, added, keepOne}
 use Rattle.kept.specs.Inner.{mapKept}
 
 module _ {A B : Type 0} (f : A → B) (score : A → Float) (score′ : B → Float) (same : A → A → Bool) (same′ : B → B → Bool)
@@ -59,8 +59,3 @@ module _ {A B : Type 0} (f : A → B) (score : A → Float) (score′ : B → Fl
   pub keep-one-map : (t : Kept A) (a : A) → keepOne score′ same′ m w (mapKept f t) (f a) ≡ mapKept f (keepOne score same m w t a)
   unfolding keepOne
   keep-one-map t a = ap (added score′ same′ m w (f a)) (lowered-map a t) ∙ added-map a (lowered score same m w a t)
-
-  pub keep-all-map : (t : Kept A) (l : List A) → keepAll score′ same′ m w (mapKept f t) (map f l) ≡ mapKept f (keepAll score same m w t l)
-  unfolding keepAll
-  keep-all-map t [] = refl
-  keep-all-map t (a ∷ l) = ap (λ (k : Kept B). keepAll score′ same′ m w k (map f l)) (keep-one-map t a) ∙ keep-all-map (keepOne score same m w t a) l

@@ -1,6 +1,6 @@
 // What is kept of the evaluations, in two lent rooms: the incumbent, the tied list, a spare slot; and whether one was discarded.
 ghost use mathlib.Core.Path.{_≡_};
-ghost use mathlib.Core.Bool.{true, false};
+ghost use mathlib.Core.Bool.{true};
 ghost use Prim.Native.Nat.{_+_, _*_, _≤_, _<_};
 ghost use lib.ListN.{length};
 ghost use Rattle.kept.specs.Inner.{Tidy, Replaced, Lowered, Adding, Added, Recorded, Begun};

@@ -1,11 +1,11 @@
 -- Laws of landings, of the first port past a cut, and of a port's bucket.
-use Prim.Native.Nat.{ℕ, zero, suc, _+_, _-_, _*_, _/_, _%_, _≤_, _<_}
+use Prim.Native.Nat.{ℕ, _+_, _-_, _*_, _/_, _%_, _≤_, _<_}
 use native.Mathlib.Nat.{eq-or-lt-of-le}
 use native.Mathlib.Omega.{arith}
 use native.Mathlib.Decide.{ℕ-discrete}
 use mathlib.Core.Path.{_≡_, refl, sym, ap, _∙_}
-use mathlib.Core.Bool.{Bool, true, false, _&&_}
-use mathlib.Core.List.{List, [], _∷_, _++_}
+use mathlib.Core.Bool.{Bool, true, false}
+use mathlib.Core.List.{List}
 use mathlib.Core.Logic.{_⊎_, inl, inr}
 use mir.Val.{Fits}
 use borrow.Author.Needs.{fits-under}
@@ -13,11 +13,10 @@ use mir.Syntax.{w64}
 use lib.Dec.{leb, ltb, eqb}
 use lib.ListN.{length, getD, take, drop, length-drop, set, length-set, replicate, length-replicate, getD-replicate}
 use lib.Seq.{length-take-le, getD-set-same, getD-set-other}
-use borrow.Author.Tests.{eqb-true, eq-eqb, ne-eqb, le-leb, leb-true, lt-ltb, ltb-true}
-use Rattle.ground.specs.Lists.{count, each}
-use Rattle.ground.proofs.ListLaws.{Falls, Cut, cut-up, cut-down, cut-done}
-use Rattle.storage.specs.Records.{portOf, recordSize, cutOffset, cutAs, cutOf, noPort, padded, sameTurn}
-use Rattle.storage.specs.Orders.{placeOf, place, bucketOf}
+use borrow.Author.Tests.{eq-eqb, ne-eqb, le-leb, leb-true, lt-ltb, ltb-true}
+use Rattle.ground.proofs.ListLaws.{Falls, Cut, cut-up, cut-down}
+use Rattle.storage.specs.Records.{portOf, cutOffset, noPort, padded, sameTurn}
+use Rattle.storage.specs.Orders.{placeOf, bucketOf}
 use Rattle.storage.specs.Inner.{Offset}
 use Rattle.storage.specs.declared.Port.{Port}
 use Rattle.storage.specs.declared.Members.{Members}

@@ -4,9 +4,9 @@ use native.Mathlib.Omega.{arith}
 use mathlib.Core.Path.{_≡_, refl, sym, ap, subst, _∙_}
 use mathlib.Core.Bool.{Bool, true, false, _&&_}
 use mathlib.Core.List.{List, []}
-use lib.Dec.{leb, ltb, eqb}
+use lib.Dec.{leb, eqb}
 use lib.ListN.{length}
-use borrow.Author.Tests.{eq-eqb, ne-eqb, leb-true, ltb-true}
+use borrow.Author.Tests.{eq-eqb, ne-eqb, leb-true}
 use Rattle.ground.specs.Lists.{pick}
 use Rattle.ground.proofs.ListLaws.{both}
 use Rattle.image.specs.declared.Header.{Header}
@@ -20,7 +20,7 @@ use Rattle.evaluate.specs.Check.{over}
 use Rattle.evaluate.proofs.Native.{checked-none}
 use Rattle.search.specs.declared.SearchBudget.{SearchBudget}
 use Rattle.search.specs.declared.ListReply.{ListReply}
-use Rattle.search.specs.Budget.{widthOk, budgetOk, budgetInBounds, budgetRefusal}
+use Rattle.search.specs.Budget.{budgetRefusal}
 use Rattle.search.specs.Rooms.{clears, leftIn, slotWidth, framesNeeded, listRoomsRefusal}
 use Rattle.search.specs.Answers.{ListRooms, refusedList, listedIn, listRefusal, listAnswer, listRooms}
 use Rattle.budget.specs.Inner.{Bounded, listRoomsBy}

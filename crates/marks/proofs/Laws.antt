@@ -3,7 +3,7 @@ use Prim.Native.Nat.{ℕ, _+_, _*_, _-_, _≤_, _<_}
 use native.Mathlib.Omega.{arith}
 use mathlib.Core.Path.{_≡_, refl, sym, ap, _∙_}
 use mathlib.Core.Bool.{Bool, true, false, not, _&&_, _||_}
-use mathlib.Core.List.{List, [], _∷_, _++_}
+use mathlib.Core.List.{List, [], _∷_}
 use lib.Dec.{eqb}
 use lib.ListN.{length, drop, getD, length-append, List·getD-eq-default}
 use Rattle.ground.specs.Lists.{all, any}
@@ -12,14 +12,14 @@ use Rattle.image.specs.declared.Header.{Header}
 use Rattle.image.specs.declared.Entry.{Entry}
 use Rattle.image.specs.Image.{entries, noEntry}
 use Rattle.image.specs.Inner.{Framed}
-use Rattle.image.specs.Panel.{Panel, panelOf, laneAt, noLane}
+use Rattle.image.specs.Panel.{panelOf, laneAt, noLane}
 use Rattle.image.proofs.Laws.{panel-entry, panel-lanes}
 use Rattle.evaluate.specs.declared.Segment.{Segment}
 use Rattle.evaluate.specs.Segments.{Route, flat}
-use Rattle.words.specs.Inner.{segmentOf, segmentsOf, routesOf, assignmentOf, Parsed, Formed, RouteAt}
+use Rattle.words.specs.Inner.{segmentOf, segmentsOf, routesOf, assignmentOf, Parsed}
 use Rattle.words.proofs.Reading.{segments-none, segments-next, routes-none, routes-next, parsed-route, parsed-next}
 use Rattle.words.proofs.Writing.{routes-length}
-use Rattle.search.specs.Counters.{varies, switchesOf, mixesLanes, mixesIdentities}
+use Rattle.search.specs.Counters.{varies}
 use Rattle.marks.specs.Inner.{laneOf, identityOf, onValue, marksOf}
 use Rattle.marks.specs.declared.Marks.{Marks}
 

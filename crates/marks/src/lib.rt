@@ -1,7 +1,6 @@
 // What the counters ask of one assignment, read from its words: its switches, and whether a route is over two lanes or two identities.
 ghost use mathlib.Core.Path.{_≡_};
-ghost use Prim.Native.Nat.{_+_, _*_, _-_, _≤_, _<_};
-ghost use lib.Dec.{eqb};
+ghost use Prim.Native.Nat.{_+_, _*_, _-_, _≤_};
 ghost use lib.ListN.{length, drop};
 ghost use Rattle.ground.specs.Lists.{all, any};
 ghost use Rattle.image.specs.Inner.{Framed};

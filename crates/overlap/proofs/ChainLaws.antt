@@ -4,14 +4,14 @@ use native.Mathlib.Omega.{arith}
 use native.Mathlib.Nat.{min-le-left, min-le-right, le-max-left, le-max-right}
 use mathlib.Core.Path.{_≡_, refl, sym, ap, ap₂, _∙_}
 use mathlib.Core.Bool.{Bool, true, false, not, _&&_, and-false}
-use mathlib.Core.List.{List, [], _∷_, _++_, append-assoc}
+use mathlib.Core.List.{List, [], _∷_, _++_}
 use lib.Dec.{leb, ltb, eqb}
 use lib.ListN.{length, drop, getD, set, replicate, length-set, length-replicate}
 use lib.Seq.{getD-set-same, getD-set-other}
 use borrow.Author.Tests.{le-ltb, leb-true, ne-eqb, eqb-true, eqb-false}
 use Rattle.ground.specs.Lists.{pick, all}
 use Rattle.evaluate.specs.declared.Segment.{Segment}
-use Rattle.evaluate.specs.Segments.{Route, overlap, clear, apart, flat}
+use Rattle.evaluate.specs.Segments.{overlap, clear, apart, flat}
 use Rattle.words.specs.Inner.{segmentOf, segmentsOf, routesOf, Parsed, RouteAt}
 use Rattle.words.proofs.Reading.{segments-none, segments-next, routes-none, routes-next, parsed-route, parsed-next}
 use Rattle.overlap.specs.Chains.{bucket, chain, chainOf, Within, outside, Descends, Linked, clearSeen, allOff, LinkedOne, LinkedRoute}

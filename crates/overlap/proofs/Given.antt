@@ -15,7 +15,7 @@ use Rattle.evaluate.specs.declared.Segment.{Segment}
 use Rattle.evaluate.specs.Refusals.{unless, at}
 use Rattle.evaluate.specs.declared.Refusal.{Refusal}
 use Rattle.evaluate.specs.Properties.{Each}
-use Rattle.evaluate.specs.Segments.{Route, joinable, joined, joining, normalize, overlap, clear, apart, flat, Holds, Share, SoundSpan, soundSpan}
+use Rattle.evaluate.specs.Segments.{Route, joinable, joined, joining, normalize, overlap, clear, apart, flat, soundSpan}
 use Rattle.evaluate.specs.Check.{isEmpty, normalRefusal, routeRefusal, routesRefusal}
 use Rattle.evaluate.proofs.Bases.{overlap-share, share-overlap, sound-iff}
 use Rattle.evaluate.proofs.NormalForm.{Filled, Joins, joins, end-to-end, joined-some, joined-holds}
@@ -148,10 +148,6 @@ apart-normal m k (s ∷ r) f = apart-joining m k s r f
 
 abbrev pub AllFilled : List Route → Type 0
 AllFilled rs = Each Filled rs
-
-flat-filled : (rs : List Route) → AllFilled rs → Filled (flat rs)
-flat-filled [] h = tt
-flat-filled (r ∷ rs) h = filled-append r (flat rs) (h .0) (flat-filled rs (h .1))
 
 clear-flat : (u : Segment) → u .start < u .end → (rs : List Route) → AllFilled rs → clear u (flat (map normalize rs)) ≡ clear u (flat rs)
 clear-flat u hu [] h = refl

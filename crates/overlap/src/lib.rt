@@ -1,7 +1,7 @@
 // Refusal 31: whether two segments share a base. Each segment is held against the earlier ones of its lane, which are chained by lane; one that lies outside all of them is clear without a walk.
 ghost use mathlib.Core.Path.{_≡_};
-ghost use mathlib.Core.Bool.{not, _&&_};
-ghost use Prim.Native.Nat.{_+_, _*_, _%_, _≤_, _<_, min, max};
+ghost use mathlib.Core.Bool.{not};
+ghost use Prim.Native.Nat.{_+_, _*_, _≤_, _<_, min, max};
 ghost use lib.ListN.{length, drop, replicate};
 ghost use Rattle.evaluate.specs.Segments.{overlap, clear, apart, flat};
 ghost use Rattle.words.specs.Inner.{routesOf, Parsed};

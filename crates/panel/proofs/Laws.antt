@@ -1,16 +1,16 @@
 -- Laws of the panel check.
-use Prim.Native.Nat.{ℕ, zero, suc, _+_, _-_, _*_, _/_, _≤_, _<_}
+use Prim.Native.Nat.{ℕ, zero, suc, _+_, _-_, _*_, _≤_, _<_}
 use native.Mathlib.Omega.{arith}
 use native.Mathlib.Nat.{eq-or-lt-of-le, mul-le-mul-right}
 use mir.Val.{Fits}
 use mir.Syntax.{w64}
 use borrow.Author.Needs.{fits-under}
 use mathlib.Core.Path.{_≡_, refl, sym, ap, _∙_}
-use mathlib.Core.Bool.{Bool, true, false, not, _&&_, _||_}
+use mathlib.Core.Bool.{Bool, true, false, _&&_, _||_}
 use mathlib.Core.List.{List, [], _∷_}
 use mathlib.Core.Logic.{_⊎_, inl, inr}
-use lib.Dec.{leb, ltb, eqb}
-use lib.ListN.{length, drop, take, getD, replicate, length-drop}
+use lib.Dec.{leb, ltb}
+use lib.ListN.{length, drop, take, getD, length-drop}
 use lib.Seq.{getD-take, getD-drop, length-take-le}
 use borrow.Author.Tests.{le-leb, lt-leb, leb-true, lt-ltb, le-ltb, ltb-true, leb-false, ne-eqb}
 use Rattle.ground.specs.Lists.{each, split, all, any, count, rising, numbersFrom}
@@ -25,7 +25,7 @@ use Rattle.image.specs.declared.Header.{Header}
 use Rattle.image.specs.declared.Entry.{Entry}
 use Rattle.image.specs.declared.Lane.{Lane}
 use Rattle.image.specs.Image.{entries, counts, lanePorts, portsOf, hub, noEntry}
-use Rattle.image.specs.Inner.{Framed, Counted, Stands}
+use Rattle.image.specs.Inner.{Framed, Stands}
 use Rattle.image.proofs.Laws.{row-length, lane-within, rows-length, entries-length, lane-port-is, lane-index}
 use Rattle.panel.specs.Refusals.{lengthOk, letter, soundPlace, soundPort, soundRecord, soundRecords, isTrue, laneRising, lanesRising, listed, ownRow}
 use Rattle.panel.specs.Inner.{Ordered, Accepted}

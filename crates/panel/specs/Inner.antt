@@ -1,15 +1,14 @@
 -- What has been tested of a panel: what inner functions ask of their callers.
 use mathlib.Core.Path.{_≡_}
-use mathlib.Core.Bool.{Bool, true, _&&_}
-use Prim.Native.Nat.{ℕ, _+_}
+use mathlib.Core.Bool.{true}
+use Prim.Native.Nat.{ℕ}
 use mathlib.Core.List.{List}
-use lib.ListN.{getD}
 use Rattle.ground.specs.Lists.{all}
 use Rattle.image.specs.declared.Header.{Header}
 use Rattle.image.specs.Image.{entries}
 use Rattle.image.specs.Inner.{Counted, Grouped}
 use Rattle.families.specs.Families.{sound5}
-use Rattle.panel.specs.Refusals.{lengthOk, letter, soundRecords, ownRows, lanesRising, hubRising, sound8}
+use Rattle.panel.specs.Refusals.{lengthOk, soundRecords, ownRows, lanesRising, hubRising, sound8}
 
 -- the lane lists rise, and every global record names a lane
 pub record Ordered (s : List ℕ) (h : Header) : Type 0 where

@@ -1,6 +1,6 @@
 -- Refusals 4 and 6 to 8 of a panel image (01, "Refusal numbers"); each test is of the whole image.
 use Prim.Native.Nat.{ℕ, _+_}
-use mathlib.Core.Bool.{Bool, true, false, _&&_, _||_}
+use mathlib.Core.Bool.{Bool, _&&_, _||_}
 use mathlib.Core.List.{List}
 use lib.Dec.{leb, ltb, eqb}
 use lib.ListN.{drop, take, getD}

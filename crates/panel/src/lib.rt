@@ -1,7 +1,7 @@
 // The panel check: refusals 4 and 6 to 8.
 ghost use mathlib.Core.Path.{_≡_};
-ghost use Prim.Native.Nat.{ℕ, _+_, _≤_, _<_};
-ghost use mathlib.Core.Bool.{Bool, true, _&&_};
+ghost use Prim.Native.Nat.{_+_, _≤_, _<_};
+ghost use mathlib.Core.Bool.{true, _&&_};
 ghost use lib.Dec.{ltb, eqb};
 ghost use lib.ListN.{length, drop, take, getD};
 ghost use Rattle.ground.specs.Lists.{sum, each, all, count, numbersFrom};
@@ -10,7 +10,7 @@ ghost use Rattle.storage.specs.Orders.{placeBefore, samePort};
 ghost use Rattle.storage.specs.Inner.{Records};
 ghost use Rattle.image.specs.Sizes.{mostPorts};
 ghost use Rattle.image.specs.Image.{entries, counts, portsOf, hub, noEntry};
-ghost use Rattle.image.specs.Inner.{Framed, Counted, Started, Stands};
+ghost use Rattle.image.specs.Inner.{Framed, Started, Stands};
 ghost use Rattle.panel.specs.Refusals.{lengthOk, sound4, letter, soundPlace, soundRecord, soundRecords, from, ownRow, ownRows, sound6, laneRising, lanesRising, hubRising, sound7, listed, sound8};
 ghost use Rattle.panel.specs.Inner.{Ordered};
 

@@ -1,6 +1,6 @@
 -- Laws of the replies, a case each.
 use Prim.Native.Nat.{ℕ}
-use mathlib.Core.Path.{_≡_, refl, sym, ap, _∙_}
+use mathlib.Core.Path.{_≡_}
 use mathlib.Core.List.{List}
 use Rattle.storage.specs.declared.Port.{Port}
 use Rattle.storage.specs.declared.Members.{Members}
@@ -9,15 +9,11 @@ use Rattle.image.specs.declared.Opened.{Opened}
 use Rattle.image.specs.declared.Opened.the-variants.{Good, Refused}
 use Rattle.graph.specs.declared.Found.{Found}
 use Rattle.graph.specs.declared.Found.the-variants.{Unsound, NoLane, NoPort, Here}
-use Rattle.graph.specs.declared.PortAnswer.{PortAnswer}
 use Rattle.graph.specs.declared.BucketAnswer.{BucketAnswer}
 use Rattle.graph.specs.declared.BucketAnswer.the-variants.{BadPanel, BadWord, Bucket}
 use Rattle.graph.specs.Check.{checked}
 use Rattle.graph.specs.Lookups.{bucketAnswer}
 use Rattle.panel_routes.specs.Replies.{panelReply, portReply, bucketReply}
-use Rattle.panel_routes.specs.declared.PanelReply.{PanelReply}
-use Rattle.panel_routes.specs.declared.PortReply.{PortReply}
-use Rattle.panel_routes.specs.declared.BucketReply.{BucketReply}
 
 module _ (s : List ℕ) (o : Opened) (e : o ≡ checked s) where
   pub panel-good : (h : Header) → o ≡ Good h → record { refusal = 0; place = 0 } ≡ panelReply (checked s)

@@ -1,4 +1,4 @@
--- Two outcomes that a promise allows are equal, refusals included: each promise is an equation of the whole reply.
+-- For the reader: two outcomes that a promise allows are equal, refusals included, since each promise is an equation of the whole reply.
 use Prim.Native.Nat.{ℕ}
 use mathlib.Core.Path.{_≡_, sym, _∙_}
 use mathlib.Core.Bool.{Bool}

@@ -1,6 +1,5 @@
 -- The replies of the exported calls: 01's number and values for each case of an answer. The place of 1 to 10 is 0; fields that an answer does not use are 0.
 use Prim.Native.Nat.{ℕ}
-use Rattle.storage.specs.declared.Members.{Members}
 use Rattle.image.specs.declared.Opened.{Opened}
 use Rattle.graph.specs.declared.Found.{Found}
 use Rattle.graph.specs.declared.Found.the-variants.{Unsound, NoLane, NoPort, Here}
@@ -8,7 +7,7 @@ use Rattle.graph.specs.declared.PortAnswer.{PortAnswer}
 use Rattle.graph.specs.declared.BucketAnswer.{BucketAnswer}
 use Rattle.graph.specs.declared.BucketAnswer.the-variants.{BadPanel, BadWord, Bucket}
 use Rattle.graph.specs.Check.{refusalOf}
-use Rattle.graph.specs.Lookups.{portRefusal, bucketRefusal}
+use Rattle.graph.specs.Lookups.{portRefusal}
 use Rattle.panel_routes.specs.declared.PanelReply.{PanelReply}
 use Rattle.panel_routes.specs.declared.PortReply.{PortReply}
 use Rattle.panel_routes.specs.declared.BucketReply.{BucketReply}

@@ -2,33 +2,30 @@
 use Prim.Native.Nat.{ℕ, zero, suc, _+_, _*_, _-_, _≤_, _<_}
 use native.Mathlib.Omega.{arith}
 use native.Mathlib.Numerals.{add-one}
-use mathlib.Core.Path.{_≡_, refl, sym, ap, ap₂, _∙_, subst}
+use mathlib.Core.Path.{_≡_, refl, sym, ap, _∙_}
 use mathlib.Core.Bool.{Bool, true, false, not, _&&_}
 use mathlib.Core.List.{List, [], _∷_}
 use mathlib.Core.Logic.{_⊎_, inl, inr}
 use lib.Dec.{leb, ltb, eqb}
 use lib.ListN.{length, drop, getD, List·getD-eq-default}
-use lib.Seq.{drop-cons, drop-nil}
-use borrow.Author.Tests.{lt-ltb, le-ltb}
-use Rattle.ground.specs.Lists.{all, keep, each}
+use lib.Seq.{drop-cons}
+use Rattle.ground.specs.Lists.{all, keep}
 use Rattle.storage.specs.declared.Port.{Port}
-use Rattle.storage.specs.declared.Order.the-variants.{Less, Equal, Greater}
 use Rattle.storage.specs.Records.{noPort}
-use Rattle.storage.specs.Orders.{wordOrder, isEqual, sameWord}
+use Rattle.storage.specs.Orders.{isEqual, sameWord}
 use Rattle.storage.specs.Inner.{SameUpTo}
 use Rattle.storage.proofs.OrderLaws.{word-less, word-greater, word-next, word-equal}
 use Rattle.image.specs.declared.Header.{Header}
 use Rattle.image.specs.declared.Entry.{Entry}
 use Rattle.image.specs.declared.Lane.{Lane}
 use Rattle.image.specs.declared.Family.{Family}
-use Rattle.image.specs.Image.{entries, noEntry, families, pathsOf}
-use Rattle.image.specs.Inner.{Framed, Stands, Groups}
-use Rattle.image.specs.Panel.{Panel, PanelLane, noLane, panelOf, laneAt, pathsAt}
+use Rattle.image.specs.Image.{entries, noEntry, pathsOf}
+use Rattle.image.specs.Inner.{Framed, Groups}
+use Rattle.image.specs.Panel.{Panel, noLane, panelOf, laneAt, pathsAt}
 use Rattle.image.proofs.Laws.{panel-lanes, panel-entry, panel-families, family-length}
-use Rattle.graph.specs.declared.Found.{Found}
-use Rattle.graph.specs.declared.Found.the-variants.{NoPort, Here}
+use Rattle.graph.specs.declared.Found.the-variants.{NoPort}
 use Rattle.graph.specs.declared.PortAnswer.{PortAnswer}
-use Rattle.graph.specs.Lookups.{without, found, portsAt}
+use Rattle.graph.specs.Lookups.{found, portsAt}
 use Rattle.evaluate.specs.declared.Segment.{Segment}
 use Rattle.evaluate.specs.declared.Refusal.{Refusal}
 use Rattle.evaluate.specs.Refusals.{noRefusal, unless, orElse, at}

@@ -3,7 +3,7 @@ use mathlib.Core.Path.{_≡_, refl, sym, ap, _∙_, subst}
 use mathlib.Core.Logic.{_⊎_, inl, inr, ⊎-elim}
 use mathlib.Core.Bool.{Bool, true, false, true≢false}
 use mathlib.Core.List.{List, [], _∷_, _++_, append-assoc, List·Memᴰ, List·Memᴰ·head, List·Memᴰ·tail, List·Memᴰ·not-nil, List·Memᴰ·cases-cons, List·Memᴰ·eq-of-singleton, List·Memᴰ·append-cases, Memᴰ·append-left, Memᴰ·append-right}
-use Rattle.ground.specs.Lists.{pick, any}
+use Rattle.ground.specs.Lists.{pick}
 use Rattle.ground.proofs.Members.{any-mem}
 use Rattle.evaluate.specs.Properties.{Pairs}
 use Rattle.evaluate.proofs.Lists.{any-in, pairs-append}

@@ -1,5 +1,5 @@
--- The unbudgeted walk of panel E, and P7 in the words of "budgets suffice": four evaluations do, three do not.
-use Prim.Native.Nat.{ℕ, _-_, _<_}
+-- For the reader: the unbudgeted walk of panel E, and P7 in the words of "budgets suffice": four evaluations do, three do not.
+use Prim.Native.Nat.{ℕ, _<_}
 use native.Mathlib.Omega.{arith}
 use native.Mathlib.Bridge.{le-by-compare, IsLe}
 use mathlib.Core.Path.{refl}

@@ -1,12 +1,12 @@
 -- The rooms' records have the widths that 01 states.
-use Prim.Native.Nat.{ℕ, zero, suc, _+_, _-_, _*_, _≤_}
+use Prim.Native.Nat.{ℕ, suc, _-_, _*_, _≤_}
 use native.Mathlib.Omega.{arith}
-use native.Mathlib.Nat.{add-mul, one-mul, suc-mul}
-use mathlib.Core.Path.{_≡_, refl, sym, ap, _∙_}
-use mathlib.Core.List.{List, [], _∷_, _++_}
+use native.Mathlib.Nat.{suc-mul}
+use mathlib.Core.Path.{_≡_, refl, ap, _∙_}
+use mathlib.Core.List.{List, [], _∷_}
 use lib.ListN.{length, replicate, length-append, length-replicate}
 use Rattle.evaluate.specs.declared.Segment.{Segment}
-use Rattle.search.specs.Walk.{Frame, Place, onPath}
+use Rattle.search.specs.Walk.{Frame, onPath}
 use Rattle.search.specs.Rooms.{padTo, frameWidth, pieceHere, frameWords, stackWords}
 
 piece-length : (l : List Segment) → length (pieceHere l) ≡ 2
@@ -18,6 +18,7 @@ piece-length (s ∷ t ∷ l) = piece-length (t ∷ l)
 pub frame-length : (f : Frame) → length (frameWords f) ≡ frameWidth
 frame-length f = ap (λ (n : ℕ). suc (suc (suc (suc (suc (suc (suc (suc n)))))))) (piece-length (onPath (f .place)))
 
+-- For the reader: the frames left stand record behind record
 pub stack-length : (l : List Frame) → length (stackWords l) ≡ length l * frameWidth
 unfolding stackWords
 stack-length [] = refl

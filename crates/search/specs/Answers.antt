@@ -1,7 +1,7 @@
 -- What the public calls answer, and the lent rooms at exit, from the inputs and the rooms at entry (01, "The walk", "Refusal numbers", "Room left behind").
-use Prim.Native.Nat.{ℕ, zero, suc, _+_, _-_}
+use Prim.Native.Nat.{ℕ, _-_}
 use mathlib.Core.Bool.{Bool, true, false}
-use mathlib.Core.List.{List, [], _∷_, _++_, map}
+use mathlib.Core.List.{List, [], _∷_, map}
 use lib.Dec.{leb, eqb}
 use lib.ListN.{length, drop, replicate}
 use lib.Ieee.{Float}
@@ -12,17 +12,13 @@ use Rattle.evaluate.specs.Refusals.{noRefusal, at}
 use Rattle.graph.specs.Check.{panelRefusal}
 use Rattle.evaluate.specs.Segments.{Assignment, flat}
 use Rattle.evaluate.specs.Words.{bit, encode}
-use Rattle.evaluate.specs.Check.{over}
 use Rattle.search.specs.declared.SearchBudget.{SearchBudget}
-use Rattle.search.specs.declared.Tally.{Tally}
 use Rattle.search.specs.declared.SearchReply.{SearchReply}
 use Rattle.search.specs.declared.ListReply.{ListReply}
 use Rattle.search.specs.Budget.{zeroScore, budgetRefusal}
-use Rattle.search.specs.Walk.{Frame}
-use Rattle.search.specs.Run.{Walk, Walked, Ending, exhausted, onWork, onEvaluation, onFrontier, walk}
+use Rattle.search.specs.Run.{Walked, Ending, exhausted, onWork, onEvaluation, onFrontier, walk}
 use Rattle.search.specs.Counters.{stopOf, statusOf, statusNumber}
-use Rattle.search.specs.Keep.{Kept}
-use Rattle.search.specs.Search.{State, Searched, fresh, search, evaluationRefusal, statusAfter}
+use Rattle.search.specs.Search.{Searched, fresh, search, evaluationRefusal, statusAfter}
 use Rattle.search.specs.Rooms.{framesNeeded, keptNeeded, scoresNeeded, slotWidth, framesLeft, keptLeft, keptScoresLeft, roomsRefusal, listRoomsRefusal, leftIn}
 
 -- 1 where a child is pending

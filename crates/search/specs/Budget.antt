@@ -1,6 +1,6 @@
 -- The budgets and their bounds: refusals 11 and 12 (01, "Refusal numbers", "Panel image").
 use Prim.Native.Nat.{ℕ}
-use mathlib.Core.Bool.{Bool, true, false, not, _&&_}
+use mathlib.Core.Bool.{Bool, false, _&&_}
 use lib.Dec.{leb, ltb}
 use lib.IntN.{pos}
 use lib.Ieee as Ieee

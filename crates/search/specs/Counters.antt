@@ -1,11 +1,11 @@
 -- The nine counters, and the five statuses (01, "The walk", "The program").
-use Prim.Native.Nat.{ℕ, zero, suc, _+_, _-_, max}
+use Prim.Native.Nat.{ℕ, _+_, _-_, max}
 use mathlib.Core.Bool.{Bool, true, false, not}
 use mathlib.Core.List.{List, [], _∷_}
 use lib.Dec.{ltb, eqb}
 use lib.ListN.{length}
-use Rattle.ground.specs.Lists.{pick, any, count}
-use Rattle.image.specs.Panel.{Panel, PanelLane, laneAt}
+use Rattle.ground.specs.Lists.{any, count}
+use Rattle.image.specs.Panel.{Panel, laneAt}
 use Rattle.evaluate.specs.declared.Segment.{Segment}
 use Rattle.evaluate.specs.Segments.{Route, Assignment, flat}
 use Rattle.search.specs.declared.Tally.{Tally}

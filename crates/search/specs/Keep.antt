@@ -1,5 +1,5 @@
 -- What is kept of the scores: the incumbent, the tied list, and whether one was discarded (01, "The walk", on scores).
-use Prim.Native.Nat.{ℕ, zero, suc}
+use Prim.Native.Nat.{ℕ, suc}
 use mathlib.Core.Bool.{Bool, true, false, not, _&&_}
 use mathlib.Core.List.{List, [], _∷_, _++_}
 use lib.Dec.{ltb, eqb}
@@ -11,7 +11,7 @@ use Rattle.ground.specs.Lists.{pick, any, keep}
 use Rattle.evaluate.specs.declared.Segment.{Segment}
 use Rattle.evaluate.specs.declared.Refusal.{Refusal}
 use Rattle.evaluate.specs.Refusals.{noRefusal}
-use Rattle.evaluate.specs.Segments.{Route, Assignment}
+use Rattle.evaluate.specs.Segments.{Assignment}
 use Rattle.storage.specs.Records.{sameTurn}
 
 -- ---- the rule, for any things with a score

@@ -1,9 +1,9 @@
 -- Room left behind, word for word (01, section of that name), and refusal 13.
-use Prim.Native.Nat.{ℕ, zero, suc, _+_, _*_, _-_, max}
-use mathlib.Core.Bool.{Bool, true, false, _&&_, _||_}
+use Prim.Native.Nat.{ℕ, _+_, _*_, _-_, max}
+use mathlib.Core.Bool.{Bool, true, _&&_, _||_}
 use mathlib.Core.List.{List, [], _∷_, _++_, map}
 use lib.Dec.{leb, eqb}
-use lib.ListN.{length, drop, replicate}
+use lib.ListN.{length, replicate}
 use lib.Ieee.{Float}
 use Rattle.ground.specs.Lists.{pick}
 use Rattle.image.specs.Panel.{Panel}

@@ -1,15 +1,15 @@
 -- Seeding, the walk over all families under its budgets, and the unbudgeted walk (01, "The walk").
 use Prim.Native.Nat.{ℕ, zero, suc, _+_, _-_, _≤_, _<_, max}
 use mathlib.Core.Path.{_≡_}
-use mathlib.Core.Bool.{Bool, true, false}
+use mathlib.Core.Bool.{Bool, false}
 use mathlib.Core.List.{List, [], _∷_, _++_, map}
 use lib.Dec.{leb, ltb, eqb}
 use lib.ListN.{length, drop, getD}
 use Rattle.ground.specs.Lists.{pick, numbersFrom}
 use Rattle.image.specs.Panel.{Panel, pathsAt}
-use Rattle.evaluate.specs.Segments.{Route, Assignment, nativeOf}
+use Rattle.evaluate.specs.Segments.{Assignment, nativeOf}
 use Rattle.search.specs.declared.SearchBudget.{SearchBudget}
-use Rattle.search.specs.Walk.{Place, Frame, Task, pass, down, give, Act, leave, doing, enter, begins, unitOf, takesMember}
+use Rattle.search.specs.Walk.{Place, Frame, pass, down, give, Act, leave, doing, enter, begins, unitOf, takesMember}
 
 -- where a walk stands: what it has counted, its stack (the top first), and what it has handed over for evaluation, in order
 pub record Walk : Type 0 where

@@ -1,12 +1,10 @@
 -- The search: the walk with its scores, from any state on (01, "The walk").
-use Prim.Native.Nat.{ℕ, suc}
-use mathlib.Core.Bool.{Bool, true, false}
-use mathlib.Core.List.{List, [], _∷_}
-use lib.ListN.{length, drop}
+use Prim.Native.Nat.{suc}
+use mathlib.Core.List.{List, []}
+use lib.ListN.{drop}
 use lib.Ieee.{Float}
 use Rattle.image.specs.Panel.{Panel}
 use Rattle.evaluate.specs.declared.Refusal.{Refusal}
-use Rattle.evaluate.specs.Segments.{Assignment}
 use Rattle.search.specs.declared.SearchBudget.{SearchBudget}
 use Rattle.search.specs.declared.Tally.{Tally}
 use Rattle.search.specs.declared.Status.{Status}

@@ -6,14 +6,13 @@ use lib.Dec.{ltb, eqb}
 use lib.ListN.{length}
 use Rattle.ground.specs.Lists.{pick}
 use Rattle.image.specs.Panel.{Panel, pathsAt}
-use Rattle.evaluate.specs.declared.Segment.{Segment}
 use Rattle.evaluate.specs.declared.Refusal.{Refusal}
 use Rattle.evaluate.specs.Segments.{Route, Assignment}
 use Rattle.search.specs.declared.Tally.{Tally}
 use Rattle.search.specs.declared.Status.{Status}
 use Rattle.search.specs.declared.Status.the-variants.{Certified, SupportIncomplete, WorkExhausted, EvaluationExhausted, FrontierExhausted}
-use Rattle.search.specs.Keep.{Kept, Evaluated}
-use Rattle.search.specs.Search.{State, Searched, statusAfter}
+use Rattle.search.specs.Keep.{Evaluated}
+use Rattle.search.specs.Search.{Searched, statusAfter}
 
 -- ---- foreign bases: "the incumbent's off its route's target lane"
 

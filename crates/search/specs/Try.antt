@@ -1,35 +1,32 @@
 -- The walk, the search and the listing computed on panel E.
-use Prim.Native.Nat.{ℕ, zero, suc, _+_, _*_, _-_, _/_, _%_, min, max}
+use Prim.Native.Nat.{ℕ, _/_, _%_}
 use mathlib.Core.Path.{_≡_, refl}
-use mathlib.Core.Bool.{Bool, true, false}
+use mathlib.Core.Bool.{false}
 use mathlib.Core.List.{List, [], _∷_, _++_, map}
-use lib.ListN.{length, take, drop, replicate}
-use lib.IntN.{pos, negsuc}
+use lib.ListN.{length, take, replicate}
+use lib.IntN.{pos}
 use lib.Ieee as Ieee
-use lib.Ieee.{Float, nan, inf, fin, binary64}
+use lib.Ieee.{Float, fin, binary64}
 use Rattle.ground.specs.Lists.{each, split, sum, all, any, count, keep, after, rising, numbersFrom, distinct}
 use Rattle.storage.specs.Bytes.{little, number}
 use Rattle.storage.specs.Records.{portOf}
 use Rattle.storage.specs.Orders.{wordOrder, portOrder, bucketOf, wordBelow, wordUpTo}
 use Rattle.image.specs.Header.{headerOf, sound2, sound3, opened}
 use Rattle.image.specs.Image.{entryOf, entries, counts, pathCounts, paths, lanePorts, hub, portsOf, startOf, families, pathsOf}
-use Rattle.image.specs.Panel.{Panel, zipLanes, panelBy, panelOf}
+use Rattle.image.specs.Panel.{zipLanes, panelBy, panelOf}
 use Rattle.families.specs.Families.{countOk, names, noTwice, sound5a, sound5b, sound5}
 use Rattle.panel.specs.Refusals.{lengthOk, sound4, letter, soundPlace, soundRecord, soundRecords, hubRising, laneRising, lanesRising, listed, sound8, from, ownRow, ownRows, sound6, sound7}
 use Rattle.storage.specs.Orders.{placeOf, placeLt, recordLt, samePort}
 use Rattle.graph.specs.Check.{portsChecked, later, checked}
 use Rattle.graph.specs.PanelE.{panelE}
 use Rattle.graph.specs.Check.{panelRefusal}
-use Rattle.evaluate.specs.Segments.{joining, apart}
-use Rattle.graph.specs.Lookups.{portsAt, bucketLo, bucketHi}
-use Rattle.evaluate.specs.Words.{encode, readSegments, readRoutes, readAssignment, decode}
-use Rattle.evaluate.specs.Check.{leaves, jointRefusal, jointsRefusal, normalRefusal, routeRefusal, routesRefusal, overlapRefusal, assignmentRefusal, wordsRefusal, checkRefusal, normalWords, checkAnswer}
+use Rattle.evaluate.specs.Words.{encode}
 use Rattle.search.specs.declared.SearchBudget.{SearchBudget}
 use Rattle.search.specs.declared.SearchReply.{SearchReply}
 use Rattle.search.specs.declared.ListReply.{ListReply}
 use Rattle.search.specs.Budget.{widthOk, budgetOk, budgetInBounds, budgetRefusal}
 use Rattle.search.specs.Walk.{enter, terminalTask, memberTask, portUnit, hubUnit, unitOf}
-use Rattle.search.specs.Run.{Walk, Phase, going, ended, exhausted, Ending, Unbudgeted, unlimited, units, run, seeds, seeded, afterSeeding, walkFrom, walk, nativesOf, outset, deepest}
+use Rattle.search.specs.Run.{Phase, going, ended, unlimited, units, run, seeds, seeded, afterSeeding, walkFrom, walk, nativesOf, outset, deepest}
 use Rattle.search.specs.Counters.{mostSwitches, tallyOf}
 use Rattle.search.specs.Keep.{tiesTo, lowered, added, keepOne, keepAll, sameList, evaluated, scoresRefusal}
 use Rattle.search.specs.Search.{walked, evaluationRefusal, keptOf, searchedAs, searchFrom, search}

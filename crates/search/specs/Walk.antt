@@ -1,5 +1,5 @@
 -- Places, frames and one unit of the walk (01, "The walk").
-use Prim.Native.Nat.{ℕ, zero, suc, _+_, _-_, min, max}
+use Prim.Native.Nat.{ℕ, suc, _-_, min, max}
 use mathlib.Core.Bool.{Bool, true, false, not, _&&_, _||_}
 use mathlib.Core.List.{List, [], _∷_, _++_}
 use lib.Dec.{leb, ltb, eqb}
@@ -7,7 +7,7 @@ use lib.ListN.{length, getD}
 use Rattle.ground.specs.Lists.{pick, count}
 use Rattle.storage.specs.Records.{cutAs, cutOf, noPort}
 use Rattle.storage.specs.declared.Port.{Port}
-use Rattle.image.specs.Panel.{Panel, PanelLane, laneAt, pathsAt}
+use Rattle.image.specs.Panel.{Panel, laneAt}
 use Rattle.evaluate.specs.declared.Segment.{Segment}
 use Rattle.evaluate.specs.Segments.{Route, flat, clear}
 use Rattle.storage.specs.Records.{sameTurn}

@@ -1,50 +1,44 @@
 -- The search's answer and its rooms at exit.
 use Prim.Native.Nat.{ℕ, zero, suc, _+_, _-_, _*_, _≤_, _<_}
 use native.Mathlib.Omega.{arith}
-use mathlib.Core.Path.{_≡_, refl, sym, ap, ap₂, subst, _∙_}
-use mathlib.Core.Bool.{Bool, true, false, _&&_, _||_}
+use mathlib.Core.Path.{_≡_, refl, sym, ap, subst, _∙_}
+use mathlib.Core.Bool.{Bool, true, false, _&&_}
 use mathlib.Core.List.{List, [], _∷_, _++_}
-use mathlib.Core.Logic.{_⊎_, inl, inr}
-use lib.Dec.{leb, ltb, eqb}
-use lib.ListN.{length, take, drop, replicate, length-replicate}
+use lib.Dec.{leb}
+use lib.ListN.{length, drop, replicate, length-replicate}
 use lib.Ieee.{Float}
 use lib.Ieee.Scale.{finite}
-use borrow.Author.Tests.{eq-eqb, ne-eqb, ltb-true}
-use Rattle.ground.specs.Lists.{pick}
+use borrow.Author.Tests.{ne-eqb}
 use Rattle.image.specs.declared.Header.{Header}
 use Rattle.image.specs.declared.Opened.{Opened}
 use Rattle.image.specs.declared.Opened.the-variants.{Good, Refused}
 use Rattle.image.specs.Header.{orRefuse, opened, sound1, sound2, sound3, headerOf}
 use Rattle.image.specs.Panel.{Panel, panelOf}
 use Rattle.families.specs.Families.{sound5}
-use Rattle.panel.specs.Inner.{Accepted}
 use Rattle.panel.specs.Refusals.{sound4, sound6, sound7, sound8}
 use Rattle.graph.specs.Check.{portsChecked, later, afterOpen, checked, refusalOf, panelRefusal}
-use Rattle.graph.proofs.Laws.{accepted-of}
 use Rattle.evaluate.specs.declared.Refusal.{Refusal}
-use Rattle.evaluate.specs.Refusals.{noRefusal, at, unless}
+use Rattle.evaluate.specs.Refusals.{at, unless}
 use Rattle.evaluate.specs.Segments.{Assignment}
-use Rattle.evaluate.specs.Words.{bit, encode}
+use Rattle.evaluate.specs.Words.{bit}
 use Rattle.evaluate.specs.Check.{over}
-use Rattle.evaluate.specs.Properties.{Each}
 use Rattle.evaluate.proofs.Native.{checked-none}
 use Rattle.search.specs.declared.SearchBudget.{SearchBudget}
 use Rattle.search.specs.declared.SearchReply.{SearchReply}
 use Rattle.search.specs.declared.Stop.{Stop}
 use Rattle.search.specs.declared.Stop.the-variants.{Exhausted, Work, Evaluation, Frontier}
-use Rattle.search.specs.Budget.{zeroScore, budgetOk, budgetInBounds, budgetRefusal}
+use Rattle.search.specs.Budget.{budgetOk, budgetInBounds, budgetRefusal}
 use Rattle.search.specs.Walk.{Place}
-use Rattle.search.specs.Run.{Ending, walk}
+use Rattle.search.specs.Run.{walk}
 use Rattle.search.specs.Counters.{stopOf, statusOf, statusNumber}
 use Rattle.search.specs.Keep.{nothing, scoresRefusal, finiteOr15}
 use Rattle.search.specs.Search.{Searched, search, evaluationRefusal, fresh, walked, scoresToCome}
 use Rattle.search.specs.Rooms.{frameWidth, framesNeeded, keptNeeded, scoresNeeded, framesLeft, keptLeft, keptScoresLeft, slotWidth, roomsRefusal, clears, leftIn}
 use Rattle.search.specs.Answers.{isPending, Rooms, searchRefusal, refusedSearch, replyOf, searchAnswer, roomsAfter, searchRooms}
-use Rattle.frames.specs.Inner.{frameOf, stackOf}
+use Rattle.frames.specs.Inner.{frameOf}
 use Rattle.frames.proofs.Laws.{length-stack}
 use Rattle.walks.specs.Inner.{endingOf, usedBy, pendingAt, zeroed}
 use Rattle.walks.proofs.Laws.{frames-left}
-use Rattle.kept.specs.declared.Holding.{Holding}
 use Rattle.kept.specs.Inner.{noHolding, Keeps, Left, Begun}
 use Rattle.kept.proofs.Rooms.{keeps-none, left-on, keeps-count, keeps-discarded, room-left, scores-left, room-begun, scores-begun}
 use Rattle.budget.specs.Inner.{Bounded, roomsBy}

@@ -1,11 +1,11 @@
 -- One evaluation, from the words in the spare to what is kept and counted.
-use Prim.Native.Nat.{ℕ, zero, suc, _+_, _-_, _*_, _≤_, _<_, max}
+use Prim.Native.Nat.{ℕ, suc, _+_, _-_, _*_, _≤_, _<_, max}
 use native.Mathlib.Nat.{sub-zero, add-mul, one-mul}
 use native.Mathlib.Numerals.{add-one}
 use native.Mathlib.Omega.{arith}
-use mathlib.Core.Path.{_≡_, refl, sym, ap, ap₂, subst, _∙_}
+use mathlib.Core.Path.{_≡_, refl, sym, ap, _∙_}
 use mathlib.Core.Bool.{Bool, true, false}
-use mathlib.Core.List.{List, [], _∷_, _++_, map}
+use mathlib.Core.List.{List, [], _∷_, map}
 use lib.Dec.{ltb}
 use lib.ListN.{length, take, drop, getD, length-drop, length-map}
 use lib.Seq.{take-at, length-take-le}
@@ -21,24 +21,23 @@ use Rattle.image.specs.Panel.{Panel, panelOf, pathsAt}
 use Rattle.image.proofs.Laws.{family-length}
 use Rattle.panel.specs.Inner.{Accepted}
 use Rattle.evaluate.specs.Segments.{Assignment, nativeOf, whole, flat}
-use Rattle.evaluate.specs.Words.{Read, got, decode, encode}
+use Rattle.evaluate.specs.Words.{got, encode}
 use Rattle.evaluate.proofs.RoundTrips.{decode-encode}
 use Rattle.search.specs.declared.SearchBudget.{SearchBudget}
-use Rattle.search.specs.Keep.{Kept, Evaluated}
 use Rattle.enumeration.proofs.Room.{encode-length}
 use Rattle.advance.proofs.Laws.{paths-are}
-use Rattle.words.specs.Inner.{assignmentOf, formed, Formed}
+use Rattle.words.specs.Inner.{assignmentOf, Formed}
 use Rattle.words.proofs.Reading.{formed-told}
 use Rattle.marks.specs.declared.Marks.{Marks}
 use Rattle.marks.specs.Inner.{marksOf}
 use Rattle.kept.specs.declared.Holding.{Holding}
-use Rattle.kept.specs.Inner.{Tidy, Ready, Keeps, Left, Recorded}
+use Rattle.kept.specs.Inner.{Tidy, Ready}
 use Rattle.kept.proofs.Spare.{written, written-tidy}
 use Rattle.kept.proofs.Lent.{lent-keeps, lent-left}
 use Rattle.writer.specs.Inner.{Written}
 use Rattle.searching.specs.declared.Counted.{Counted}
 use Rattle.searching.specs.declared.Account.{Account}
-use Rattle.searching.specs.Inner.{scoreRefusal, markedWith, Few, Marked, Settled, Entered}
+use Rattle.searching.specs.Inner.{scoreRefusal, markedWith, Marked, Settled, Entered}
 
 -- ---- the score
 

@@ -1,27 +1,26 @@
 -- One evaluation of a search, and its end: what is left gives the whole.
-use Prim.Native.Nat.{ℕ, zero, suc, _+_, _-_, _*_, _≤_, _<_, max}
+use Prim.Native.Nat.{ℕ, _+_, _≤_, _<_, max}
 use native.Mathlib.Nat.{add-zero}
 use native.Mathlib.Numerals.{add-one}
 use native.Mathlib.Omega.{arith}
-use mathlib.Core.Path.{_≡_, refl, sym, ap, ap₂, _∙_}
+use mathlib.Core.Path.{_≡_, refl}
 use mathlib.Core.Bool.{Bool, true, false}
-use mathlib.Core.List.{List, [], _∷_, _++_}
+use mathlib.Core.List.{List, _∷_}
 use lib.ListN.{length, drop, getD, drop-of-length-le}
 use lib.Seq.{drop-cons}
 use lib.Ieee.{Float, nan}
 use lib.Ieee.Scale.{finite}
 use Rattle.ground.specs.Lists.{oneMoreIf, count}
 use Rattle.image.specs.Panel.{Panel}
-use Rattle.evaluate.specs.declared.Refusal.{Refusal}
 use Rattle.evaluate.specs.Refusals.{noRefusal}
 use Rattle.evaluate.specs.Segments.{Assignment}
 use Rattle.search.specs.declared.SearchBudget.{SearchBudget}
 use Rattle.search.specs.declared.Tally.{Tally}
 use Rattle.search.specs.Walk.{Frame}
-use Rattle.search.specs.Run.{Walk, Walked, Ending, walk, untouched}
+use Rattle.search.specs.Run.{Walked, Ending, walk}
 use Rattle.search.specs.Counters.{switchesOf, hasSwitch, mixesLanes, mixesIdentities, mostSwitches, tallyOf}
-use Rattle.search.specs.Keep.{Kept, nothing, Evaluated, scoreOf, sameEvaluated, keepOne, keepAll, evaluated, scoresRefusal, finiteOr15}
-use Rattle.search.specs.Search.{State, Searched, searchedAs, keptOf, walked, searchFrom, search, evaluationRefusal, fresh}
+use Rattle.search.specs.Keep.{Kept, nothing, Evaluated, keepAll, evaluated, scoresRefusal}
+use Rattle.search.specs.Search.{searchedAs, keptOf, walked, searchFrom, search, evaluationRefusal, fresh}
 use Rattle.walks.specs.Inner.{walkOf, before}
 use Rattle.searching.specs.declared.Counted.{Counted}
 use Rattle.searching.specs.Inner.{noneCounted, countedWith, tallied, stateWith, outcomeOf, refusalOf, scoredBy, keptWith}

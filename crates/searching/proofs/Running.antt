@@ -1,12 +1,11 @@
 -- The search under way: from one evaluation to the next, and its ends.
-use Prim.Native.Nat.{ℕ, zero, suc, _+_, _-_, _*_, _≤_, _<_}
-use native.Mathlib.Nat.{not-suc-le-zero}
+use Prim.Native.Nat.{ℕ, _+_, _-_, _*_, _≤_, _<_}
 use native.Mathlib.Omega.{arith}
-use mathlib.Core.Path.{_≡_, refl, sym, ap, ap₂, subst, _∙_}
+use mathlib.Core.Path.{_≡_, refl, sym, ap, subst, _∙_}
 use mathlib.Core.Bool.{Bool, true, false}
-use mathlib.Core.List.{List, [], _∷_, _++_}
+use mathlib.Core.List.{List}
 use lib.Dec.{ltb}
-use lib.ListN.{length, drop, getD}
+use lib.ListN.{length, getD}
 use lib.Ieee.{Float, nan}
 use lib.Ieee.Scale.{finite}
 use borrow.Author.Tests.{ltb-true, ltb-false}
@@ -15,31 +14,26 @@ use Rattle.image.specs.declared.Header.{Header}
 use Rattle.image.specs.Panel.{Panel, panelOf}
 use Rattle.evaluate.specs.declared.Segment.{Segment}
 use Rattle.evaluate.specs.declared.Refusal.{Refusal}
-use Rattle.evaluate.specs.Refusals.{noRefusal}
 use Rattle.evaluate.specs.Segments.{Assignment}
 use Rattle.evaluate.specs.Words.{encode}
 use Rattle.evaluate.specs.Properties.{Each}
 use Rattle.search.specs.declared.SearchBudget.{SearchBudget}
-use Rattle.search.specs.declared.Tally.{Tally}
 use Rattle.search.specs.declared.Stop.{Stop}
-use Rattle.search.specs.Run.{Walk, Walked}
+use Rattle.search.specs.Run.{Walked}
 use Rattle.search.specs.Rooms.{frameWidth}
-use Rattle.search.specs.Keep.{Kept, Evaluated}
 use Rattle.search.specs.Counters.{hasSwitch, mixesLanes, mixesIdentities}
-use Rattle.search.specs.Search.{search, evaluationRefusal, fresh}
-use Rattle.kept.specs.Inner.{Ready, Keeps, Left}
+use Rattle.search.specs.Search.{evaluationRefusal, fresh}
+use Rattle.kept.specs.Inner.{Ready, Left}
 use Rattle.kept.proofs.Rooms.{left-none, left-on}
 use Rattle.frames.specs.Inner.{frameOf, stackOf}
 use Rattle.walks.specs.declared.Standing.{Standing}
-use Rattle.walks.specs.declared.Halt.{Halt}
 use Rattle.walks.specs.declared.Halt.the-variants.{Stopped, Due}
 use Rattle.walks.specs.declared.Pause.{Pause}
 use Rattle.walks.specs.Inner.{walkOf, toGo, before, endingOf, assigned, haltedAs, Walking, Paused}
 use Rattle.walks.specs.Inner.{Kept as Room}
 use Rattle.searching.specs.declared.Counted.{Counted}
 use Rattle.searching.specs.declared.Account.{Account}
-use Rattle.searching.specs.declared.Found.{Found}
-use Rattle.searching.specs.Inner.{scoreRefusal, countedWith, outcomeOf, refusalOf, scoredBy, keptWith, Few, Entered, Fitting, Onward, Told, Ended}
+use Rattle.searching.specs.Inner.{scoreRefusal, outcomeOf, refusalOf, scoredBy, keptWith, Few, Entered, Fitting, Onward, Ended}
 use Rattle.searching.proofs.Rest.{outcome-one, refusal-one, refusal-unfit, refusal-none, outcome-end, refusal-end}
 
 -- ---- the score

@@ -1,5 +1,5 @@
 -- Seeding under way, and its ends.
-use Prim.Native.Nat.{ℕ, zero, suc, _+_, _-_, _*_, _≤_, _<_}
+use Prim.Native.Nat.{ℕ, _+_, _≤_, _<_}
 use native.Mathlib.Omega.{arith}
 use mathlib.Core.Path.{_≡_, refl, sym, ap, subst, _∙_}
 use mathlib.Core.Bool.{Bool, true}
@@ -14,12 +14,11 @@ use Rattle.image.specs.Panel.{Panel, panelOf}
 use Rattle.image.proofs.Laws.{panel-families, families-length}
 use Rattle.panel.specs.Inner.{Accepted}
 use Rattle.evaluate.specs.declared.Refusal.{Refusal}
-use Rattle.evaluate.specs.Segments.{Assignment, nativeOf}
+use Rattle.evaluate.specs.Segments.{nativeOf}
 use Rattle.evaluate.specs.Words.{encode}
 use Rattle.search.specs.declared.SearchBudget.{SearchBudget}
-use Rattle.search.specs.Run.{Walk, Walked, walkFrom, walk}
-use Rattle.search.specs.Search.{evaluationRefusal, fresh}
-use Rattle.kept.specs.Inner.{Ready, Left}
+use Rattle.search.specs.Run.{Walked, walkFrom, walk}
+use Rattle.kept.specs.Inner.{Left}
 use Rattle.kept.proofs.Rooms.{left-none, left-on}
 use Rattle.search.specs.declared.Tally.{Tally}
 use Rattle.search.specs.declared.Stop.{Stop}

@@ -1,14 +1,13 @@
 -- A search under way, from what is left of its walk; nothing here is part of a public promise.
-use Prim.Native.Nat.{ℕ, zero, suc, _+_, _-_, _*_, _≤_, _<_, max}
+use Prim.Native.Nat.{ℕ, suc, _+_, _*_, _≤_, _<_, max}
 use mathlib.Core.Path.{_≡_}
-use mathlib.Core.Bool.{Bool, true, false}
-use mathlib.Core.List.{List, [], _∷_, _++_}
+use mathlib.Core.Bool.{true}
+use mathlib.Core.List.{List, [], _++_}
 use lib.ListN.{length, take, drop, getD}
 use lib.Ieee.{Float, nan}
 use lib.Dec.{ltb, eqb}
 use lib.Ieee.Scale.{finite}
 use Rattle.ground.specs.Lists.{pick, oneMoreIf}
-use mathlib.Core.Logic.{_⊎_}
 use Rattle.image.specs.declared.Header.{Header}
 use Rattle.image.specs.Panel.{Panel}
 use Rattle.evaluate.specs.declared.Refusal.{Refusal}
@@ -18,10 +17,8 @@ use Rattle.evaluate.specs.Check.{over}
 use Rattle.evaluate.specs.Properties.{Each}
 use Rattle.search.specs.declared.SearchBudget.{SearchBudget}
 use Rattle.search.specs.declared.Tally.{Tally}
-use Rattle.search.specs.declared.Stop.{Stop}
 use Rattle.search.specs.declared.SearchReply.{SearchReply}
-use Rattle.search.specs.declared.Stop.the-variants.{Exhausted, Work, Evaluation, Frontier}
-use Rattle.search.specs.Run.{Walk, Walked, walkFrom}
+use Rattle.search.specs.Run.{Walked, walkFrom}
 use Rattle.search.specs.Counters.{switchesOf, hasSwitch, mixesLanes, mixesIdentities, statusOf, statusNumber}
 use Rattle.search.specs.Keep.{Kept, Evaluated, scoreOf, sameEvaluated, keepOne, scoresRefusal}
 use Rattle.search.specs.Search.{State, Searched, searchedAs, search, evaluationRefusal, fresh}

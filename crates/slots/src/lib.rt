@@ -1,7 +1,7 @@
 // Slots of v words in a lent room, and a score for each.
 ghost use mathlib.Core.Path.{_≡_};
 ghost use mathlib.Core.Logic.{_⊎_};
-ghost use Prim.Native.Nat.{_+_, _*_, _≤_, _<_};
+ghost use Prim.Native.Nat.{_+_, _*_, _≤_};
 ghost use lib.ListN.{length, drop, replicate};
 ghost use lib.Ieee as Ieee;
 ghost use Rattle.search.specs.Keep.{has, tiedTo};

@@ -1,16 +1,16 @@
 -- Laws of the binary searches over records.
-use Prim.Native.Nat.{ℕ, zero, suc, _+_, _-_, _*_, _/_, _≤_, _<_}
+use Prim.Native.Nat.{ℕ, zero, suc, _+_, _-_, _/_, _≤_, _<_}
 use native.Mathlib.Omega.{arith}
 use mathlib.Core.Path.{_≡_, refl, sym, ap, _∙_}
-use mathlib.Core.Bool.{Bool, true, false, not}
+use mathlib.Core.Bool.{Bool, true, false}
 use mathlib.Core.List.{List, [], _∷_}
 use lib.ListN.{length, take, drop, getD, length-drop}
 use lib.Seq.{length-take-le}
-use Rattle.ground.specs.Lists.{each, count, rising, oneMoreIf}
+use Rattle.ground.specs.Lists.{each, count, oneMoreIf}
 use Rattle.ground.proofs.ListLaws.{each-length, each-from, Falls, Cut, cut-up, cut-down, rising-falls}
 use Rattle.storage.specs.Records.{padded, portOf, noPort}
-use Rattle.storage.specs.Orders.{wordOrder, isLess, isGreater, recordLt, wordBelow, wordUpTo}
-use Rattle.storage.specs.Inner.{Offset, Records, Sorted}
+use Rattle.storage.specs.Orders.{wordOrder, isLess, recordLt, wordBelow, wordUpTo}
+use Rattle.storage.specs.Inner.{Offset, Sorted}
 use Rattle.storage.specs.declared.Port.{Port}
 use Rattle.storage.specs.declared.Order.{Order}
 use Rattle.storage.specs.declared.Order.the-variants.{Less, Equal, Greater}

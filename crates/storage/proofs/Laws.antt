@@ -11,7 +11,7 @@ use lib.Dec.{eqb}
 use Rattle.storage.specs.Bytes.{little, number, part}
 use Rattle.ground.specs.Lists.{each}
 use Rattle.ground.proofs.ListLaws.{both, place-fits, each-from}
-use mathlib.Core.Bool.{Bool, true, false, not, _&&_}
+use mathlib.Core.Bool.{Bool, true, false, not}
 use borrow.Author.Tests.{eq-eqb, ne-eqb, eqb-true}
 use Rattle.storage.specs.Inner.{leAt, Records, Offset}
 use Rattle.storage.specs.Records.{padded, portOf, noPort, cutOffset, cutOf, sameTurn, standsAt}
@@ -61,10 +61,6 @@ pub filled-done : (xs w : List ℕ) (at k i : ℕ) → i ≤ k → k ≤ i → k
 filled-done xs w at k i le ge small h =
     let same : i ≡ k = omega arith in
     h ∙ rw (same, drop-replicate k 32 small)
-
--- the same for any list s that fills a word from the front
-pub fill-next : (s w : List ℕ) (n b : ℕ) → n < 32 → n < length s → b ≡ getD s n 0 → w ≡ take n s ++ drop n (replicate 32 0) → set w n b ≡ take (n + 1) s ++ drop (n + 1) (replicate 32 0)
-fill-next s w n b h m e q = rw (q, e, add-one) (fill-suc n s (replicate 32 0) h m)
 
 -- the record at a place, from what was read behind it
 pub port-read : (xs w : List ℕ) (at k s a b : ℕ) → w ≡ padded (part xs at k) k → s ≡ number (drop (at + k) xs) → a ≡ number (drop (at + k + 8) xs)

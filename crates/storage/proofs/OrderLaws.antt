@@ -13,7 +13,7 @@ use borrow.Author.Tests.{lt-ltb, le-ltb, ltb-true, ltb-false}
 use Rattle.ground.specs.Lists.{pick}
 use Rattle.storage.proofs.Laws.{drop-next}
 use Rattle.storage.specs.Records.{padded, portOf}
-use Rattle.storage.specs.Orders.{andThen, numOrder, flagOrder, wordOrder, portOrder, isLess, isEqual, isGreater, recordLt, samePort, turn, placeOf, place, placeLt, placeBefore, wordBelow, wordUpTo}
+use Rattle.storage.specs.Orders.{andThen, numOrder, flagOrder, wordOrder, portOrder, isLess, isEqual, isGreater, recordLt, samePort, turn, placeOf, placeLt, placeBefore, wordBelow, wordUpTo}
 use Rattle.storage.specs.Inner.{SameUpTo, restOrder, beAt, BytesAt, Lead}
 use Rattle.storage.specs.declared.Port.{Port}
 use Rattle.storage.specs.declared.Order.{Order}
@@ -309,10 +309,6 @@ port-same p q e =
     let ef = flag-same (p .reverse) (q .reverse) f in
     λ i. record { word = ew i; source = es i; anchor = ea i; reverse = ef i }
 
-pub same-self : (p : Port) → samePort p p ≡ true
-unfolding samePort
-same-self p = rw (port-self p)
-
 -- the words of rising records rise too, or stay
 words-rise : (p q : Port) → recordLt p q ≡ true → (wordOrder (p .word) (q .word) ≡ Less) ⊎ (p .word ≡ q .word)
 unfolding recordLt portOrder
@@ -404,14 +400,6 @@ module _ (p : Port) (here anchor : ℕ) (reverse : Bool) (eh : here ≡ p .ancho
     pub before-turn : turned ≡ false → reverse ≡ placeBefore anchor reverse p
     unfolding placeBefore
     before-turn e = place-turn (p .anchor) anchor (p .reverse) reverse (omega arith) (omega arith) (sym et ∙ e)
-
--- two places are one only where anchor and orientation are
-pub place-one : (a b : ℕ) (t u : Bool) → placeOf a t ≡ placeOf b u → (a ≡ b) × (t ≡ u)
-unfolding placeOf
-place-one a b true true e = (omega arith, refl)
-place-one a b true false e = absurd (omega arith)
-place-one a b false true e = absurd (omega arith)
-place-one a b false false e = (omega arith, refl)
 
 -- ---- records compared where they stand
 

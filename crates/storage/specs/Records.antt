@@ -1,5 +1,5 @@
 -- What stands in a port record (01, "Panel image"): the word, the source, the anchor, the reverse byte.
-use Prim.Native.Nat.{ℕ, _+_, _-_, _*_, _/_}
+use Prim.Native.Nat.{ℕ, _+_, _-_, _/_}
 use mathlib.Core.Bool.{Bool, true, false, _&&_}
 use mathlib.Core.List.{List, _++_}
 use lib.Dec.{eqb}

@@ -1,11 +1,11 @@
 // Numbers and port records in a byte image.
 ghost use mathlib.Core.Path.{_≡_};
-ghost use Prim.Native.Nat.{ℕ, _+_, _-_, _*_, _^_, _≤_, _<_};
+ghost use Prim.Native.Nat.{_+_, _^_, _≤_, _<_};
 ghost use lib.ListN.{length, take, drop, getD};
 ghost use Rattle.ground.specs.Lists.{each, count};
 ghost use Rattle.storage.specs.Bytes.{number};
 ghost use Rattle.storage.specs.Records.{padded, portOf, cutOffset, cutOf, sameTurn, standsAt, noPort, recordSize, longestWord};
-ghost use Rattle.storage.specs.Orders.{andThen, numOrder, flagOrder, wordOrder, portOrder, isLess, isEqual, isGreater, recordLt, samePort, placeLt, placeBefore, wordBelow, wordUpTo, bucketOf};
+ghost use Rattle.storage.specs.Orders.{andThen, numOrder, flagOrder, wordOrder, portOrder, isLess, isEqual, recordLt, samePort, placeLt, placeBefore, wordBelow, wordUpTo, bucketOf};
 ghost use Rattle.storage.specs.Inner.{leAt, Lead, Widened, SameUpTo, restOrder, Records, Sorted, Offset};
 
 // ---- words
@@ -81,14 +81,6 @@ impl Port {
         } else {
             false
         }
-    }
-
-    // The bytes of a record.
-    pub fn size(k: usize) -> usize
-        requires { ⌜ k ≤ longestWord ⌝ }
-        ensures { λ r. ⌜ r ≡ recordSize k ⌝ }
-    {
-        k + Port::EXCESS
     }
 
     // No port: what stands beside an answer that has none.

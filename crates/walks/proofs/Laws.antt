@@ -1,14 +1,14 @@
 -- How each way through a turn of the walk keeps what it keeps to.
 use Prim.Native.Nat.{ℕ, zero, suc, _+_, _-_, _*_, _≤_, _<_, min}
-use native.Mathlib.Nat.{not-suc-le-zero, eq-or-lt-of-le}
+use native.Mathlib.Nat.{eq-or-lt-of-le}
 use native.Mathlib.Numerals.{add-one}
 use native.Mathlib.Omega.{arith}
 use native.Mathlib.Decide.{ℕ-discrete}
 use mathlib.Core.Path.{_≡_, refl, sym, ap, ap₂, _∙_}
-use mathlib.Core.Bool.{Bool, true, false, not, _&&_}
+use mathlib.Core.Bool.{Bool, true, false}
 use mathlib.Core.Logic.{_⊎_, inl, inr}
 use mathlib.Core.List.{List, [], _∷_, _++_, append-nil, append-assoc}
-use lib.Dec.{leb, ltb, eqb}
+use lib.Dec.{leb, ltb}
 use lib.ListN.{length, take, drop, getD, replicate, length-append, length-replicate}
 use lib.Seq.{length-take-le}
 use mir.Val.{Fits}
@@ -21,34 +21,30 @@ use Rattle.image.specs.declared.Header.{Header}
 use Rattle.image.specs.declared.Family.{Family}
 use Rattle.image.specs.declared.Lane.{Lane}
 use Rattle.image.specs.Image.{pathCounts, pathsOf, portsOf, entries, counts, startOf, noEntry}
-use Rattle.image.specs.Inner.{Started, Stands, Grouped, Groups}
+use Rattle.image.specs.Inner.{Started, Stands, Groups}
 use Rattle.image.specs.Panel.{Panel, panelOf, pathsAt}
 use Rattle.panel.specs.Inner.{Accepted}
 use Rattle.evaluate.specs.declared.Segment.{Segment}
 use Rattle.evaluate.specs.Segments.{Assignment}
 use Rattle.evaluate.specs.Check.{over}
-use Rattle.image.proofs.Laws.{panel-families, families-length, path-counts-length}
+use Rattle.image.proofs.Laws.{panel-families, families-length}
 use Rattle.search.specs.declared.SearchBudget.{SearchBudget}
 use Rattle.search.specs.declared.Tally.{Tally}
 use Rattle.search.specs.declared.Stop.{Stop}
 use Rattle.search.specs.declared.Stop.the-variants.{Exhausted, Work, Evaluation, Frontier}
-use Rattle.search.specs.Walk.{Place, Frame, Doing, pass, down, give, Act, leave, doing, enter, behind, unitOf, takesMember}
-use Rattle.search.specs.Run.{Walk, Walked, Phase, going, ended, Ending, exhausted, onWork, onEvaluation, onFrontier, limitsOf, root, stacked, begin, spend, handed, doneWith, left, afterAct, run}
+use Rattle.search.specs.Walk.{Frame, enter, behind, unitOf, takesMember}
+use Rattle.search.specs.Run.{Walk, going, exhausted, onFrontier, limitsOf, root, stacked, begin, spend, handed, doneWith, left, afterAct, run}
 use Rattle.search.specs.Rooms.{frameWidth, placeWords, frameWords, stackWords, pendingWords, framesLeft}
 use Rattle.frames.specs.declared.Stored.{Stored}
 use Rattle.frames.specs.Inner.{Path, noPath, noSegment, longer, pathTo, pathAt, storedAt, placeWith, frameWith, put, frameOf, stackOf, Linked, Alike}
-use Rattle.frames.proofs.Laws.{put-again, length-put, drop-put, stored-same, stored-below, path-at, stack-none, stack-top, stack-above, stack-retop, stack-root, stack-push, length-stack, frame-below, frame-push, frame-retop, frame-root, alike-below, alike-path, linked-less, linked-root, linked-push, linked-retop, stack-suc, take-words, put-stored}
-use Rattle.landings.specs.declared.Landing.{Landing}
-use Rattle.advance.specs.declared.Action.{Action}
+use Rattle.frames.proofs.Laws.{put-again, length-put, drop-put, stored-same, stored-below, path-at, stack-none, stack-above, stack-retop, stack-root, stack-push, length-stack, frame-below, frame-push, frame-retop, frame-root, alike-below, alike-path, linked-less, linked-root, linked-push, linked-retop, stack-suc, take-words, put-stored}
 use Rattle.advance.specs.declared.Action.the-variants.{Leave, Pass, Down, Give}
 use Rattle.advance.specs.declared.Turn.{Turn}
-use Rattle.advance.specs.Inner.{movedTo, On, childOf, entered, Sound, Child, Flagged, taskOf, actOf, Turned, Ready, Moved, leadsOn, Blocked, Past}
+use Rattle.advance.specs.Inner.{movedTo, On, childOf, entered, Sound, Child, Flagged, actOf, Turned, Ready, Moved, leadsOn, Blocked, Past}
 use Rattle.advance.proofs.Laws.{count-here, hub-member, hub-close, meets-blocked, blocked-start, blocked-same, blocked-past, past-alike, past-turned, enter-child, enter-alike, enter-sound, enter-shut, paths-are, path-named, path-some}
 use Rattle.walks.specs.declared.Standing.{Standing}
-use Rattle.walks.specs.declared.Halt.{Halt}
 use Rattle.walks.specs.declared.Halt.the-variants.{Stopped, Due}
-use Rattle.walks.specs.declared.Pause.{Pause}
-use Rattle.walks.specs.Inner.{spentOf, handedOf, doneOf, walkOf, gone, toGo, handing, before, endingOf, assigned, haltedAs, rootOf, Held, Walking, Kept, usedBy, Paused, zeroed, tookOf, workedOf, Under, Stuck, Further, Passed}
+use Rattle.walks.specs.Inner.{spentOf, handedOf, doneOf, walkOf, gone, toGo, handing, endingOf, rootOf, Held, Walking, Kept, usedBy, Paused, zeroed, tookOf, workedOf, Under, Stuck, Further, Passed}
 use Rattle.walks.proofs.Steps.{run-after, run-ended, to-go-some, to-go-work, to-go-evaluation, to-go-act}
 
 -- ---- the room
@@ -106,13 +102,6 @@ pick-small false = omega arith
 
 pub taken-small : (s : List ℕ) (h : Header) (family : Family) (xs ys : List ℕ) (i : ℕ) (u : Turn) → Moved s h family xs ys i u → u .taken ≤ 1
 taken-small s h family xs ys i u m = rw (m .turned .taken) (pick-small (takesMember (frameWith (pathAt xs i) (storedAt xs i))))
-
-pub taken-before : (s : List ℕ) (h : Header) (b : SearchBudget) (family : Family) (start : ℕ) (xs₀ : List ℕ) (t₀ : Tally) (d₀ : ℕ) (xs : List ℕ) (t : Tally) (d : ℕ) (flag : Bool)
-    → Going s h b family start xs₀ t₀ d₀ xs t d flag → t .donors ≤ t .work
-taken-before s h b family start xs₀ t₀ d₀ xs t d flag g = g .held .taken
-
-pub less-work : (b : SearchBudget) (t u : Tally) (k : ℕ) → u ≡ spentOf t k → t .work < b .«max_work» → b .«max_work» - u .work < b .«max_work» - t .work
-less-work b t u k e l = rw e (omega arith)
 
 -- a frame left is the family's end, or the one below goes on
 left-gone : (p : Panel) (w : Walk) (k : ℕ) (rest : List Frame) → left p w k rest ≡ gone p (spend w k rest) rest

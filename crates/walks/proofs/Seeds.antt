@@ -1,22 +1,21 @@
 -- Seeding, one native after the other.
-use Prim.Native.Nat.{ℕ, zero, suc, _+_, _-_, _*_, _≤_, _<_}
+use Prim.Native.Nat.{ℕ, zero, suc, _+_, _-_, _≤_, _<_}
 use native.Mathlib.Nat.{add-zero}
 use native.Mathlib.Numerals.{add-one}
 use native.Mathlib.Omega.{arith}
-use mathlib.Core.Path.{_≡_, refl, sym, ap, ap₂, _∙_}
+use mathlib.Core.Path.{_≡_, refl, sym, ap, _∙_}
 use mathlib.Core.Bool.{Bool, true, false}
-use mathlib.Core.List.{List, [], _∷_, _++_, append-nil}
-use lib.Dec.{leb, ltb, eqb}
+use mathlib.Core.List.{List, [], _∷_}
+use lib.Dec.{ltb, eqb}
 use lib.ListN.{length, drop, getD, drop-of-length-le}
 use lib.Seq.{drop-cons}
 use borrow.Author.Tests.{eq-eqb, ne-eqb, le-leb, lt-leb, lt-ltb, le-ltb}
 use Rattle.ground.specs.Lists.{pick}
-use Rattle.image.specs.Panel.{Panel, pathsAt}
+use Rattle.image.specs.Panel.{Panel}
 use Rattle.evaluate.specs.Segments.{Assignment, nativeOf}
 use Rattle.search.specs.declared.SearchBudget.{SearchBudget}
-use Rattle.search.specs.declared.Tally.{Tally}
 use Rattle.search.specs.Walk.{Frame}
-use Rattle.search.specs.Run.{Walk, Walked, Phase, going, ended, Ending, exhausted, onWork, onEvaluation, root, stacked, begin, run, seeds, seededWith, seeded, resumed, short, afterSeeding, walkFrom, walk, untouched}
+use Rattle.search.specs.Run.{Walk, going, exhausted, onWork, onEvaluation, root, stacked, begin, run, seeds, seededWith, seeded, resumed, short, afterSeeding, walkFrom}
 use Rattle.walks.specs.Inner.{handing, before, seedWalk}
 use Rattle.walks.proofs.Steps.{run-after, run-ended}
 

@@ -1,24 +1,22 @@
 -- A unit of the walk, on the stack of a room.
-use Prim.Native.Nat.{ℕ, zero, suc, _+_, _-_, _*_, _≤_, _<_}
-use native.Mathlib.Numerals.{add-one}
+use Prim.Native.Nat.{ℕ, zero, suc, _+_, _-_, _≤_, _<_}
 use native.Mathlib.Omega.{arith}
-use mathlib.Core.Path.{_≡_, refl, sym, ap, ap₂, _∙_}
-use mathlib.Core.Bool.{Bool, true, false, not, _&&_}
-use mathlib.Core.List.{List, [], _∷_, _++_, append-assoc}
-use lib.Dec.{leb, ltb, eqb}
-use lib.ListN.{length, getD}
-use borrow.Author.Tests.{le-leb, lt-leb, lt-ltb, le-ltb}
+use mathlib.Core.Path.{_≡_, refl, ap, _∙_}
+use mathlib.Core.Bool.{Bool, true, false}
+use mathlib.Core.List.{List, [], _∷_}
+use lib.Dec.{ltb}
+use lib.ListN.{length}
+use borrow.Author.Tests.{le-leb, lt-leb}
 use Rattle.ground.specs.Lists.{pick}
-use Rattle.image.specs.Panel.{Panel, panelOf, pathsAt}
-use Rattle.evaluate.specs.declared.Segment.{Segment}
-use Rattle.evaluate.specs.Segments.{Route, Assignment}
+use Rattle.image.specs.Panel.{Panel, pathsAt}
+use Rattle.evaluate.specs.Segments.{Assignment}
 use Rattle.search.specs.declared.SearchBudget.{SearchBudget}
 use Rattle.search.specs.declared.Tally.{Tally}
-use Rattle.search.specs.Walk.{Place, Frame, Doing, pass, down, give, Act, leave, doing, enter, unitOf, takesMember}
-use Rattle.search.specs.Run.{Walk, Walked, Phase, going, ended, Ending, exhausted, onWork, onEvaluation, onFrontier, Limits, limitsOf, root, stacked, begin, spend, handed, doneWith, left, afterAct, onTop, unit, units, stopped, run}
+use Rattle.search.specs.Walk.{Frame, pass, down, give, Act, leave, doing, enter, unitOf, takesMember}
+use Rattle.search.specs.Run.{Walk, Phase, going, ended, Ending, onWork, onEvaluation, onFrontier, Limits, limitsOf, begin, spend, doneWith, left, afterAct, onTop, unit, units, stopped, run}
 use Rattle.frames.specs.Inner.{frameOf, stackOf}
-use Rattle.frames.proofs.Laws.{stack-none, stack-top}
-use Rattle.walks.specs.Inner.{spentOf, walkOf, gone, toGo, handing, before}
+use Rattle.frames.proofs.Laws.{stack-top}
+use Rattle.walks.specs.Inner.{walkOf, gone, toGo, handing, before}
 
 -- ---- the walk's fuel
 

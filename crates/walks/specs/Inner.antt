@@ -1,12 +1,11 @@
 -- The walk over frames in a room, from any state on; nothing here is part of a public promise.
-use Prim.Native.Nat.{ℕ, zero, suc, _+_, _-_, _*_, _≤_, _<_}
+use Prim.Native.Nat.{ℕ, _+_, _-_, _*_, _≤_, _<_}
 use mathlib.Core.Path.{_≡_}
 use mathlib.Core.Bool.{Bool, true, false}
 use mathlib.Core.List.{List, [], _∷_, _++_}
 use lib.ListN.{length, take, drop, getD, replicate}
 use Rattle.ground.specs.Lists.{sum}
 use Rattle.image.specs.declared.Header.{Header}
-use Rattle.image.specs.declared.Family.{Family}
 use Rattle.image.specs.declared.Lane.{Lane}
 use Rattle.image.specs.Image.{pathCounts}
 use Rattle.image.specs.Panel.{Panel, panelOf, pathsAt}
@@ -20,8 +19,7 @@ use Rattle.search.specs.Walk.{Place, Frame}
 use Rattle.search.specs.Run.{Walk, Walked, Phase, going, Ending, exhausted, onWork, onEvaluation, onFrontier, begin, doneWith, run}
 use Rattle.search.specs.Rooms.{frameWidth, stackWords, pendingWords}
 use Rattle.frames.specs.declared.Stored.{Stored}
-use Rattle.frames.specs.Inner.{put, noSegment, longer, pathAt, storedAt, placeWith, frameOf, stackOf, Linked}
-use Rattle.landings.specs.declared.Landing.{Landing}
+use Rattle.frames.specs.Inner.{noSegment, longer, pathAt, storedAt, frameOf, stackOf, Linked}
 use Rattle.advance.specs.Inner.{childOf, entered, Sound, Flagged, Blocked}
 use Rattle.walks.specs.declared.Standing.{Standing}
 use Rattle.walks.specs.declared.Halt.{Halt}

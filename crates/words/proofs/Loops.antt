@@ -1,10 +1,10 @@
 -- A test of every segment that stands from a place on, one by one.
 use Prim.Native.Nat.{ℕ, _+_, _*_, _-_, _≤_, _<_}
 use native.Mathlib.Omega.{arith}
-use mathlib.Core.Path.{_≡_, refl, sym, _∙_}
+use mathlib.Core.Path.{_≡_, refl, _∙_}
 use mathlib.Core.Bool.{Bool, true, false}
-use mathlib.Core.List.{List, [], _∷_}
-use lib.ListN.{length, drop}
+use mathlib.Core.List.{List}
+use lib.ListN.{drop}
 use Rattle.ground.specs.Lists.{all}
 use Rattle.evaluate.specs.declared.Segment.{Segment}
 use Rattle.words.specs.Inner.{segmentOf, segmentsOf}

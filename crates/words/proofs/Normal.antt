@@ -1,13 +1,12 @@
 -- The normal form, segment by segment, from the words.
-use Prim.Native.Nat.{ℕ, zero, suc, _+_, _*_, _-_, _≤_, _<_}
+use Prim.Native.Nat.{ℕ, _+_, _*_, _-_, _≤_, _<_}
 use native.Mathlib.Omega.{arith}
-use mathlib.Core.Path.{_≡_, refl, sym, ap, _∙_}
+use mathlib.Core.Path.{_≡_, _∙_}
 use mathlib.Core.Bool.{Bool, true, false}
-use mathlib.Core.List.{List, [], _∷_}
-use lib.ListN.{length, drop}
+use mathlib.Core.List.{List}
+use lib.ListN.{drop}
 use Rattle.evaluate.specs.declared.Segment.{Segment}
-use Rattle.evaluate.specs.Segments.{Route, joinable, joined, joining, normalize}
-use Rattle.words.specs.declared.Cursor.{Cursor}
+use Rattle.evaluate.specs.Segments.{joinable, joined, joining}
 use Rattle.words.specs.Inner.{segmentOf, segmentsOf, normalOf, normalFrom, Reached}
 use Rattle.words.proofs.Reading.{segments-none, segments-next}
 

@@ -1,16 +1,13 @@
 -- Words that are well formed, read in place, are the assignment that they say.
 use Prim.Native.Nat.{ℕ, zero, suc, _+_, _*_, _-_, _≤_, _<_}
 use native.Mathlib.Omega.{arith}
-use native.Mathlib.Nat.{mul-suc}
-use native.Mathlib.Numerals.{add-one, add-two, add-three, add-four}
 use mathlib.Core.Path.{_≡_, refl, sym, ap, ap₂, _∙_, subst}
 use mathlib.Core.Bool.{Bool, true, false}
-use mathlib.Core.List.{List, [], _∷_, _++_}
+use mathlib.Core.List.{List, [], _∷_}
 use lib.Dec.{eqb}
 use lib.ListN.{length, drop, getD, length-drop}
-use lib.Seq.{drop-cons, drop-drop, getD-drop}
+use lib.Seq.{drop-drop, getD-drop}
 use Rattle.ground.specs.Lists.{each}
-use Rattle.evaluate.specs.declared.Segment.{Segment}
 use Rattle.evaluate.specs.Segments.{Route, Assignment}
 use Rattle.evaluate.specs.Words.{Read, malformed, got, before, turned, readSegments, thenRoutes, readRoutes, ofFamily, readAssignment, allOf, decode}
 use Rattle.words.specs.Inner.{segmentOf, segmentsOf, routesOf, assignmentOf, UsedUp, Parsed, formed, Formed}

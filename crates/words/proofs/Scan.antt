@@ -1,19 +1,19 @@
 -- How one walk over the words tells whether they are well formed.
-use mathlib.Core.Path.{_≡_, refl, sym, ap, ap₂, _∙_, subst}
+use mathlib.Core.Path.{_≡_, refl, sym, ap, ap₂, _∙_}
 use mathlib.Core.Bool.{Bool, true, false}
-use mathlib.Core.List.{List, [], _∷_, _++_}
+use mathlib.Core.List.{List, [], _∷_}
 use Prim.Native.Nat.{ℕ, zero, suc, _+_, _-_, _≤_, _<_}
 use native.Mathlib.Omega.{arith}
 use native.Mathlib.Nat.{eq-or-lt-of-le}
-use mathlib.Core.Logic.{_⊎_, inl, inr, ⊎-elim}
+use mathlib.Core.Logic.{⊎-elim}
 use native.Mathlib.Numerals.{add-one, add-two, add-three, add-four}
 use lib.Dec.{eqb}
 use borrow.Author.Tests.{eq-eqb, ne-eqb}
 use lib.ListN.{length, drop, getD, length-drop, drop-of-length-le}
 use lib.Seq.{drop-cons}
 use Rattle.evaluate.specs.declared.Segment.{Segment}
-use Rattle.evaluate.specs.Segments.{Route, Assignment}
-use Rattle.evaluate.specs.Words.{Read, malformed, got, before, turned, readSegments, thenRoutes, readRoutes, ofFamily, readAssignment, allOf, decode}
+use Rattle.evaluate.specs.Segments.{Route}
+use Rattle.evaluate.specs.Words.{Read, malformed, got, before, readSegments, thenRoutes, readRoutes, ofFamily, readAssignment, allOf, decode}
 use Rattle.words.specs.Inner.{formed}
 
 -- `left` routes are to come; and before them n segments

@@ -1,18 +1,18 @@
 -- The normal form written: word by word into a room whose other words stay.
 use Prim.Native.Nat.{ℕ, zero, suc, _+_, _*_, _-_, _≤_, _<_}
 use native.Mathlib.Omega.{arith}
-use native.Mathlib.Numerals.{add-one, add-two, add-three, add-four}
-use mathlib.Core.Path.{_≡_, refl, sym, ap, ap₂, _∙_}
+use native.Mathlib.Numerals.{add-one, add-four}
+use mathlib.Core.Path.{_≡_, refl, sym, ap, _∙_}
 use mathlib.Core.Bool.{Bool, true, false}
 use mathlib.Core.List.{List, [], _∷_, _++_, map}
-use lib.ListN.{length, drop, getD, set, length-set, length-map, length-append}
+use lib.ListN.{length, drop, getD, set, length-map, length-append}
 use lib.Seq.{sets, length-sets, set-comm}
 use mir.Val.{boolByte}
 use Rattle.evaluate.specs.declared.Segment.{Segment}
-use Rattle.evaluate.specs.Segments.{Route, Assignment, normalize, normalForm}
-use Rattle.evaluate.specs.Words.{bit, segmentWords, routeWords, encode}
+use Rattle.evaluate.specs.Segments.{Route, normalize}
+use Rattle.evaluate.specs.Words.{bit, segmentWords, encode}
 use Rattle.words.specs.declared.Cursor.{Cursor}
-use Rattle.words.specs.Inner.{segmentsOf, routesOf, assignmentOf, Parsed, Formed, normalOf, normalFrom, Reached, routeHead, RoutePut, normalRoutes, RoutesPut, NormalPut}
+use Rattle.words.specs.Inner.{routesOf, Parsed, normalOf, normalFrom, Reached, routeHead, RoutePut, normalRoutes, RoutesPut, NormalPut}
 use Rattle.words.proofs.Reading.{segments-none, routes-none, routes-next, parsed-route, parsed-next}
 
 pub byte-bit : (b : Bool) → boolByte b ≡ bit b

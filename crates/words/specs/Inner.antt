@@ -1,8 +1,8 @@
 -- What the assignment check's inner functions promise each other: the words read in place, and the normal form from a place on.
 use Prim.Native.Nat.{ℕ, zero, suc, _+_, _*_, _≤_, _<_}
 use mathlib.Core.Path.{_≡_}
-use mathlib.Core.Bool.{Bool, true, false, not, _&&_}
-use mathlib.Core.List.{List, [], _∷_, _++_, map}
+use mathlib.Core.Bool.{Bool, true, false}
+use mathlib.Core.List.{List, [], _∷_, map}
 use lib.Dec.{eqb}
 use lib.ListN.{length, drop, getD}
 use lib.Seq.{sets}
@@ -11,7 +11,7 @@ use Rattle.graph.specs.declared.Found.{Found}
 use Rattle.graph.specs.declared.Found.the-variants.{Unsound, NoLane, NoPort, Here}
 use Rattle.evaluate.specs.declared.Segment.{Segment}
 use Rattle.words.specs.declared.Cursor.{Cursor}
-use Rattle.evaluate.specs.Segments.{Route, Assignment, normalize, normalForm, flat}
+use Rattle.evaluate.specs.Segments.{Route, Assignment, normalize, normalForm}
 use Rattle.evaluate.specs.Words.{Read, malformed, got, decode, segmentWords, routeWords, encode}
 
 -- ---- words that are known to be well formed, read in place
@@ -101,11 +101,6 @@ pub record NormalPut (ws xs ys : List ℕ) (count : ℕ) : Type 0 where
   pub words : ys ≡ sets xs 0 (encode (normalForm (assignmentOf ws)))
   pub long : count ≡ length (encode (normalForm (assignmentOf ws)))
   pub few : count ≤ length ws
-
--- ---- the segments from a place on, with those of the routes that follow
-
-unfoldable pub restOf : List ℕ → ℕ → ℕ → ℕ → List Segment
-restOf ws at left routes = segmentsOf left (drop at ws) ++ flat (routesOf routes (drop (at + 4 * left) ws))
 
 abbrev pub isHere : Found → Bool
 isHere (Unsound n) = false

@@ -1,7 +1,6 @@
 -- Laws of the words of an assignment as they are written.
 use Prim.Native.Nat.{ℕ, zero, suc, _+_, _-_, _*_, _≤_, _<_}
 use native.Mathlib.Numerals.{add-one}
-use native.Mathlib.Nat.{not-suc-le-zero}
 use native.Mathlib.Omega.{arith}
 use mathlib.Core.Path.{_≡_, refl, sym, ap, ap₂, _∙_}
 use mathlib.Core.Bool.{Bool, true, false}
@@ -20,12 +19,11 @@ use Rattle.image.proofs.Laws.{panel-entry, family-length}
 use Rattle.panel.specs.Inner.{Accepted}
 use Rattle.advance.proofs.Laws.{paths-are, path-named}
 use Rattle.evaluate.specs.declared.Segment.{Segment}
-use Rattle.evaluate.specs.Segments.{Route, Assignment, flat, whole, nativeOf}
+use Rattle.evaluate.specs.Segments.{Route, whole, nativeOf}
 use Rattle.evaluate.specs.Words.{bit, segmentWords, routeWords, encode}
-use Rattle.search.specs.Rooms.{frameWidth}
 use Rattle.frames.specs.declared.Stored.{Stored}
-use Rattle.frames.specs.Inner.{Path, noPath, longer, pathTo, pathAt, pieceAt, storedAt}
-use Rattle.frames.proofs.Laws.{path-zero, path-suc, path-pieces, pieces-length}
+use Rattle.frames.specs.Inner.{Path, longer, pathAt, pieceAt, storedAt}
+use Rattle.frames.proofs.Laws.{path-zero, path-suc}
 use Rattle.walks.specs.Inner.{assigned}
 use Rattle.writer.specs.declared.Pen.{Pen}
 use Rattle.writer.specs.Inner.{segmentPut, wholePut, begun, pathWords, Penned, Roomy, Added, Opened, Pieced, Written}
@@ -56,10 +54,6 @@ size-is : (family : ℕ) (a : Path) → length (pathWords family a) ≡ 2 + leng
 size-is family a = let e = length-append (routeWords (a .routes)) (length (a .route) ∷ segmentWords (a .route)) in let q = segments-length (a .route) in omega arith
 
 -- ---- the pen
-
-pub penned-begun : (family : ℕ) (zs xs : List ℕ) (p : Pen) (a : Path) → 3 ≤ length zs → xs ≡ begun zs family → p ≡ record { head = 2; at = 3; count = 0; routes = 1 } → a ≡ noPath → Penned family a zs xs p
-unfolding begun
-penned-begun family zs xs p a l e ep ea = rw (e, ep, ea) (record { words = sets-eq (family ∷ 1 ∷ 0 ∷ []) zs 0 l; head = refl; at = refl; count = refl; routes = refl })
 
 module _ (family : ℕ) (a : Path) (zs xs : List ℕ) (p : Pen) (k : Penned family a zs xs p) where
   pub penned-roomy : (n : ℕ) → length (pathWords family a) + n ≤ length xs → Roomy xs p n
@@ -304,27 +298,6 @@ module _ (family : ℕ) (fs : List ℕ) (top : ℕ) (s : Segment) (zs xs : List 
 
 pub added-told : (xs ys : List ℕ) (p : Pen) (s : Segment) → ys ≡ segmentPut xs (p .at) s → Added xs (set ys (p .head) (p .count + 1)) p s (record { head = p .head; at = p .at + 4; count = p .count + 1; routes = p .routes })
 added-told xs ys p s e = record { room = rw e; pen = refl }
-
--- ---- how many words a completed assignment has
-
-routes-length : (rs : List Route) → length (routeWords rs) ≡ length rs + 4 * length (flat rs)
-routes-length [] = refl
-routes-length (r ∷ rs) =
-    let e = routes-length rs in
-    let l = length-append (segmentWords r) (routeWords rs) in
-    let q = segments-length r in
-    let m = length-append r (flat rs) in
-    omega arith
-
--- "V = 2 + P + 4R words": fewer routes done than paths, and frames to the frontier
-pub due-fits : (family : ℕ) (fs : List ℕ) (top paths most : ℕ) (s : Segment) → length (pathAt fs top .routes) < paths → top < most → length (encode (assigned family fs top s)) ≤ 2 + paths + 4 * most
-due-fits family fs top paths most s few low =
-    let e = encode-size family fs top s in
-    let z = size-is family (pathAt fs top) in
-    let r = routes-length (pathAt fs top .routes) in
-    let l = length-append (flat (pathAt fs top .routes)) (pathAt fs top .route) in
-    let n = ap length (path-pieces fs top) ∙ pieces-length fs top in
-    omega arith
 
 -- ---- natives
 

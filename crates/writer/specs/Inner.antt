@@ -1,11 +1,11 @@
 -- The words of an assignment as they are written; nothing here is part of a public promise.
-use Prim.Native.Nat.{ℕ, zero, suc, _+_, _*_, _≤_, _<_}
+use Prim.Native.Nat.{ℕ, suc, _+_, _≤_, _<_}
 use mathlib.Core.Path.{_≡_}
 use mathlib.Core.List.{List, [], _∷_, _++_}
 use lib.ListN.{length, set, drop}
 use lib.Seq.{sets}
 use Rattle.evaluate.specs.declared.Segment.{Segment}
-use Rattle.evaluate.specs.Words.{bit, segmentWords, routeWords}
+use Rattle.evaluate.specs.Words.{segmentWords, routeWords}
 use Rattle.frames.specs.Inner.{Path, pathAt}
 use Rattle.writer.specs.declared.Pen.{Pen}
 

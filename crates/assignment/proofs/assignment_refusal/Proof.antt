@@ -1,8 +1,6 @@
 use mathlib.Core.Path.{refl, refl}
 use borrow.Author.Needs.{needs}
 use Rattle.assignment.proofs.Laws.{refused-24, refused-23, refused-later}
-use Rattle.evaluate.specs.Words.{before}
-use Rattle.evaluate.proofs.Native.{taken}
 use Rattle.assignment.proofs.assignment_refusal.Statement.{statement}
 use Rattle.assignment.proofs.assignment_refusal.Tie as tie
 

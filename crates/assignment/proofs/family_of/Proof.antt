@@ -3,7 +3,6 @@ use Rattle.assignment.proofs.Laws.{family-fits, family-next}
 use Prim.Native.Nat.{_-_}
 use Rattle.image.specs.Image.{pathCounts}
 use Rattle.ground.proofs.ListLaws.{sum-to-start, sum-to-done, SumTo}
-use Rattle.storage.specs.Bytes.{number}
 use Rattle.assignment.proofs.family_of.Statement.{statement}
 use Rattle.assignment.proofs.family_of.Tie as tie
 

@@ -5,7 +5,6 @@ use Prim.Native.Nat.{_≤_, _-_, ℕ}
 use Rattle.frames.proofs.Zeros.{zeroed, zeroed-none, zeroed-more, zeroed-done}
 use native.Mathlib.Omega.{arith}
 use mathlib.Core.List.{List}
-use Rattle.evaluate.specs.Words.{before}
 use Rattle.frames.proofs.clear_words.Statement.{statement}
 use Rattle.frames.proofs.clear_words.Tie as tie
 

@@ -1,6 +1,5 @@
 use borrow.Author.Needs.{needs}
 use Rattle.image.specs.Image.{counts}
-use Rattle.ground.proofs.ListLaws.{starts}
 use Rattle.image.proofs.Laws.{started, counts-length, Starting, starting-start, starting-next, starting-fits}
 use Prim.Native.Nat.{_-_}
 use Rattle.image.proofs.lane_starts.Statement.{statement}

@@ -1,11 +1,9 @@
 use borrow.Author.Needs.{needs}
 use Rattle.image.specs.Image.{portsOf}
 use Rattle.image.proofs.Laws.{row-length}
-use Rattle.ground.specs.Lists.{count}
 use Rattle.landings.specs.Inner.{reached}
 use Prim.Native.Nat.{_-_}
 use Rattle.ground.proofs.ListLaws.{cut-start, Cut, cut-done}
-use Rattle.storage.specs.Bytes.{number}
 use Rattle.landings.proofs.Laws.{first-up, first-down}
 use Rattle.storage.specs.Records.{noPort}
 use Rattle.landings.proofs.ports_reached.Statement.{statement}

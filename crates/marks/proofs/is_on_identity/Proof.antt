@@ -1,7 +1,6 @@
 use borrow.Author.Needs.{needs}
 use Rattle.words.proofs.Loops.{SegmentsFrom, segments-ends, segments-start, segments-again, segments-fails}
 use Rattle.image.specs.Panel.{panelOf}
-use Rattle.search.specs.Run.{left}
 use Rattle.marks.specs.Inner.{onValue, identityOf}
 use Rattle.marks.proofs.is_on_identity.Statement.{statement}
 use Rattle.marks.proofs.is_on_identity.Tie as tie

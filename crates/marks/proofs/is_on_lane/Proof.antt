@@ -1,6 +1,5 @@
 use borrow.Author.Needs.{needs}
 use Rattle.words.proofs.Loops.{SegmentsFrom, segments-fails, segments-start, segments-again, segments-ends}
-use Rattle.search.specs.Run.{left}
 use Rattle.marks.specs.Inner.{onValue, laneOf}
 use Rattle.marks.proofs.is_on_lane.Statement.{statement}
 use Rattle.marks.proofs.is_on_lane.Tie as tie

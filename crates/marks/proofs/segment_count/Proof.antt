@@ -1,6 +1,5 @@
 use borrow.Author.Needs.{needs}
 use Rattle.marks.proofs.Laws.{counting-start, counting-next, counting-ends, counting-route, Counting}
-use Rattle.ground.specs.Lists.{count}
 use Rattle.marks.proofs.segment_count.Statement.{statement}
 use Rattle.marks.proofs.segment_count.Tie as tie
 

@@ -1,6 +1,5 @@
 use borrow.Author.Needs.{needs}
 use Rattle.evaluate.specs.Refusals.{at}
-use Rattle.storage.specs.Orders.{place}
 use Rattle.words.proofs.Loops.{segments-fails, SegmentsFrom, segments-ends, segments-start, segments-again}
 use Rattle.evaluate.specs.Segments.{soundSpan}
 use Rattle.image.specs.Panel.{panelOf}

@@ -1,6 +1,5 @@
 use borrow.Author.Needs.{needs}
 use Rattle.searching.proofs.Entering.{spare-long, entered, spare-tidy}
-use Rattle.evaluate.specs.Words.{before}
 use Rattle.searching.proofs.enter_native.Statement.{statement}
 use Rattle.searching.proofs.enter_native.Tie as tie
 

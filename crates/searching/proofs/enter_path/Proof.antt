@@ -1,6 +1,5 @@
 use borrow.Author.Needs.{needs}
 use Rattle.searching.proofs.Entering.{entered, spare-tidy, spare-long}
-use Rattle.evaluate.specs.Words.{before}
 use Rattle.searching.proofs.enter_path.Statement.{statement}
 use Rattle.searching.proofs.enter_path.Tie as tie
 

@@ -1,13 +1,7 @@
 use borrow.Author.Needs.{needs}
 use Rattle.searching.proofs.Sowing.{Sowing, sowing-start, sown-work, sown-evaluation, sown-refused, native-few, sown-all, native-listed, native-fits, sowing-next}
-use Rattle.image.specs.Image.{families}
 use Prim.Native.Nat.{_-_, _<_}
-use Rattle.panel.specs.Refusals.{listed}
-use Rattle.search.specs.Walk.{begins, onward}
 use native.Mathlib.Omega.{arith}
-use Rattle.search.specs.Run.{left}
-use Rattle.evaluate.proofs.Native.{taken}
-use Rattle.evaluate.specs.Words.{before}
 use Rattle.searching.proofs.seed.Statement.{statement}
 use Rattle.searching.proofs.seed.Tie as tie
 

@@ -1,15 +1,8 @@
-use Prim.Native.Nat.{ℕ, _+_, _-_, _≤_, _<_}
-use mathlib.Core.Path.{_≡_, refl}
-use mathlib.Core.List.{_++_}
-use native.Mathlib.Omega.{arith}
-use lib.ListN.{length, drop, replicate}
-use Rattle.storage.specs.Bytes.{part}
+use Prim.Native.Nat.{_-_, _≤_}
 use Rattle.storage.proofs.Laws.{Filled, filled-next, filled-done}
 use borrow.Author.Needs.{needs}
 use Rattle.storage.proofs.letters_at.Statement.{statement}
 use Rattle.storage.proofs.letters_at.Tie as tie
-use Rattle.storage.proofs.letters_at.Reads as reads
-use Rattle.storage.proofs.letters_at.Lts as lts
 
 abbrev Inv-loop : tie.InvT-loop
 Inv-loop image at k word₀ i₀ word i = (i ≤ k) × Filled image at i word

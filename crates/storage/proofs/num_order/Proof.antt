@@ -1,9 +1,6 @@
 use Rattle.storage.proofs.OrderLaws.{num-less, num-greater, num-equal}
-use borrow.Author.Needs.{needs}
 use Rattle.storage.proofs.num_order.Statement.{statement}
 use Rattle.storage.proofs.num_order.Tie as tie
-use Rattle.storage.proofs.num_order.Reads as reads
-use Rattle.storage.proofs.num_order.Lts as lts
 
 returns : tie.Need-returns
 returns c = search (num-less, num-greater, num-equal)

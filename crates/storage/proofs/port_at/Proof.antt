@@ -2,10 +2,6 @@ use Rattle.storage.proofs.Laws.{port-read}
 use borrow.Author.Needs.{needs}
 use Rattle.storage.proofs.port_at.Statement.{statement}
 use Rattle.storage.proofs.port_at.Tie as tie
-use Rattle.storage.proofs.port_at.Reads as reads
-use Rattle.storage.proofs.port_at.Lts as lts
-use Rattle.storage.proofs.letters_at.Reads as letters-at-reads
-use Rattle.storage.proofs.word_at.Reads as word-at-reads
 
 letters-at-requires : tie.Need-letters-at-requires
 letters-at-requires c κs = search needs

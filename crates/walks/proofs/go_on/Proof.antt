@@ -1,5 +1,4 @@
 use borrow.Author.Needs.{needs}
-use Rattle.evaluate.specs.Segments.{clear}
 use Rattle.landings.specs.Inner.{Known}
 use Rattle.walks.proofs.Laws.{Going, Outer, by-down, by-due, by-evaluation, by-exhausted, by-frontier, by-leave, by-next, by-pass, by-work, child-lane, evaluations-left, families-few, frontier-room, going-start, less-families, outer-start, over-evaluations, over-going, over-less, ready-of, root-room, start-next, taken-small, under-of}
 use Prim.Native.Nat.{_-_}

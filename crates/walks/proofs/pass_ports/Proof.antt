@@ -1,5 +1,5 @@
 use borrow.Author.Needs.{needs}
-use Rattle.walks.proofs.Laws.{Striding, stride-start, stride-members, stride-past, least-left, close-fits, least-right, stride-next, stride-turn, strode, turn-less}
+use Rattle.walks.proofs.Laws.{Striding, stride-start, least-left, close-fits, least-right, stride-next, stride-turn, strode, turn-less}
 use Rattle.landings.specs.Inner.{Known}
 use Prim.Native.Nat.{_-_}
 use Rattle.walks.proofs.pass_ports.Statement.{statement}

@@ -1,6 +1,5 @@
 use borrow.Author.Needs.{needs}
 use Rattle.words.proofs.Normal.{joining-start, joining-more, Joining, joining-ends, joining-stops}
-use Rattle.storage.specs.Orders.{place}
 use Rattle.evaluate.specs.Refusals.{at}
 use Rattle.words.proofs.normal_at.Statement.{statement}
 use Rattle.words.proofs.normal_at.Tie as tie

@@ -3,7 +3,6 @@ use lib.ListN.{length-set}
 use Rattle.words.proofs.Writing.{normal-put}
 use native.Mathlib.Omega.{arith}
 use mathlib.Core.Path.{_∙_}
-use Rattle.evaluate.specs.Words.{before}
 use Rattle.words.proofs.put_normal.Statement.{statement}
 use Rattle.words.proofs.put_normal.Tie as tie
 

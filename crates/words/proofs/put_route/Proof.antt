@@ -1,8 +1,6 @@
 use borrow.Author.Needs.{needs}
 use Rattle.words.proofs.Writing.{putting-start, Putting, putting-more, putting-done}
-use Rattle.storage.specs.Orders.{place}
 use Rattle.evaluate.specs.Refusals.{at}
-use Rattle.ground.specs.Lists.{count}
 use Rattle.words.proofs.put_route.Statement.{statement}
 use Rattle.words.proofs.put_route.Tie as tie
 

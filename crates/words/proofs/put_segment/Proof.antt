@@ -2,7 +2,6 @@ use borrow.Author.Needs.{needs}
 use native.Mathlib.Omega.{arith}
 use lib.ListN.{length-set}
 use native.Mathlib.Numerals.{add-one, add-two, add-three}
-use Rattle.evaluate.specs.Words.{before}
 use Rattle.words.proofs.Writing.{byte-bit}
 use Rattle.words.proofs.put_segment.Statement.{statement}
 use Rattle.words.proofs.put_segment.Tie as tie

@@ -1,8 +1,5 @@
 use borrow.Author.Needs.{needs}
 use Rattle.writer.proofs.Laws.{roomy-after, roomy-less, piece-closes, piece-same}
-use Rattle.evaluate.specs.Words.{before}
-use Rattle.evaluate.proofs.Native.{taken}
-use Rattle.search.specs.Run.{left}
 use Rattle.writer.proofs.add_piece.Statement.{statement}
 use Rattle.writer.proofs.add_piece.Tie as tie
 

@@ -5,8 +5,6 @@ use lib.ListN.{length, length-set}
 use Prim.Native.Nat.{_*_, _+_, _-_, _≤_}
 use native.Mathlib.Omega.{arith}
 use Rattle.image.specs.Panel.{panelOf}
-use Rattle.storage.specs.Bytes.{number}
-use Rattle.evaluate.specs.Words.{before}
 use Rattle.writer.proofs.put_native.Statement.{statement}
 use Rattle.writer.proofs.put_native.Tie as tie
 

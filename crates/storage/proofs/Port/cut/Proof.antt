@@ -1,8 +1,6 @@
 use borrow.Author.Needs.{needs}
 use Rattle.storage.proofs.Port.cut.Statement.{statement}
 use Rattle.storage.proofs.Port.cut.Tie as tie
-use Rattle.storage.proofs.Port.cut.Reads as reads
-use Rattle.storage.proofs.Port.cut.Lts as lts
 
 sub-result : tie.Need-sub-result
 sub-result c = search needs
