@@ -1,5 +1,5 @@
-# Sourced by the scripts that build Rust: finds or installs what a build needs, says how to
-# build and run x86-64 programs on this machine.
+# Sourced by the scripts that prove, and by those that build Rust: finds or installs what a build
+# needs, says how to build and run x86-64 programs on this machine.
 need() { # a program, and the packages that bring it
     command -v "$1" >/dev/null 2>&1 || { shift && install "$@"; }
 }
@@ -8,9 +8,19 @@ install() {
     updated=yes
     DEBIAN_FRONTEND=noninteractive apt-get install -y --no-install-recommends "$@" >&2
 }
+# Has rt prove and build: a line a crate on a terminal, all that the prover says in target/NAME.log.
+prove() { # the repository, rt's verb, NAME
+    mkdir -p "$1/target"
+    log=$1/target/$3.log
+    progress=/dev/null
+    [ ! -t 2 ] || { progress=/dev/stderr && echo "$3: proving it, crate by crate, this once" >&2; }
+    { (cd "$1" && rt "$2" "$3") </dev/null 2>&1 || echo "$3: not proved"; } | tee "$log" |
+        sed -nu 's/^rt: \([a-z_]* proved.*\)/  \1/p' >"$progress"
+    [ "$(tail -n 1 "$log")" != "$3: not proved" ] || { tail -n 20 "$log" >&2 && return 1; }
+}
 # The archive that a Rust program links: proved and built, unless PANEL_ROUTES_LIB names one.
-archive() { # $1: the repository
-    [ -n "${PANEL_ROUTES_LIB:-}" ] || (cd "$1" && rt staticlib panel_routes >&2)
+archive() { # the repository
+    [ -n "${PANEL_ROUTES_LIB:-}" ] || prove "$1" staticlib panel_routes
     PANEL_ROUTES_LIB=$(realpath "${PANEL_ROUTES_LIB:-$1/target/staticlib/libpanel_routes.a}")
     export PANEL_ROUTES_LIB
 }
