@@ -37,6 +37,16 @@ def mentioned(name, names):
     return bool(parts) and all({p, '_' + p, p + '_', '_' + p + '_'} & names for p in parts)
 
 
+def closing(text, i):
+    """Where the bracket that opens at i is closed, in tokens or in a text."""
+    depth = 0
+    for j in range(i, len(text)):
+        depth += (text[j] in '({') - (text[j] in ')}')
+        if depth == 0:
+            return j
+    return len(text)
+
+
 class Tokens(list):
     def __init__(self, text):
         super().__init__()
@@ -50,19 +60,10 @@ class Tokens(list):
                     self.before.add(len(self))
             self.append(m[0])
 
-    def closing(self, i):
-        """Where the bracket that opens at i is closed."""
-        depth = 0
-        for j in range(i, len(self)):
-            depth += (self[j] in '({') - (self[j] in ')}')
-            if depth == 0:
-                return j
-        return len(self)
-
     def until(self, i, ends):
         """The first place from i on that has one of these tokens, or closes the bracket around i; brackets are passed over."""
         while i < len(self) and self[i] not in ends and self[i] not in ')}':
-            i = self.closing(i) + 1 if self[i] in '({' else i + 1
+            i = closing(self, i) + 1 if self[i] in '({' else i + 1
         return min(i, len(self))
 
     def group(self, i):
@@ -78,7 +79,7 @@ class Tokens(list):
         while i < len(self):
             if self[i] in '({':
                 names.update(self.group(i))
-                i = self.closing(i)
+                i = closing(self, i)
             i += 1
         return names
 
@@ -108,7 +109,7 @@ class Scope:
         names, places, i = set(), set(), a
         while i < e:
             if ts[i] in '({':
-                close = ts.closing(i)
+                close = closing(ts, i)
                 more, there = self.pattern(ts, i + 1, min(ts.until(i + 1, (':',)), close))
                 names |= more
                 places |= there
@@ -233,7 +234,7 @@ class File:
             self.mention(block, self.scope.free(ts, (), i + 1))
             return None
         if ts[typed:typed + 1] == ['{']:
-            typed = ts.closing(typed) + 1
+            typed = closing(ts, typed) + 1
         if ts[typed:typed + 1] == [':']:
             if block.kind == 'file':
                 self.declare(block, head, piece[0][0])
