@@ -9,6 +9,7 @@ pub mod large;
 pub mod library;
 pub mod outside;
 pub mod plain;
+pub mod raised;
 pub mod record;
 pub mod rules;
 pub mod sample;

@@ -2,7 +2,7 @@
 use oracle::{
     calls::{Call, Kind, KINDS},
     compare::{self, Run},
-    examples, judge, large, outside, record, rules, sample,
+    examples, judge, large, outside, raised, record, rules, sample,
 };
 use std::{
     fs,
@@ -110,6 +110,7 @@ fn main() {
             compare::exhaustive(&run, number(stride)).is_ok()
         }
         ["discarded"] => compare::discarded(&run).is_ok(),
+        ["raised"] => raised::pairs(&run).is_ok(),
         ["outside"] => {
             outside::show();
             true

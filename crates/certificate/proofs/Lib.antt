@@ -1,8 +1,12 @@
 pub mod Check
-pub mod Listing
+pub mod Unrefused
+pub mod Evaluated
 pub mod Reply
+pub mod Listing
 pub mod Walk
 pub mod Scores
 pub mod Certificate
 pub mod Told
+pub mod Larger
 pub mod OnE
+pub mod LargerOnE

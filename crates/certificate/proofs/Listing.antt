@@ -5,7 +5,6 @@ use mathlib.Core.Bool.{Bool, true, false}
 use mathlib.Core.List.{List}
 use lib.Dec.{eqb}
 use lib.ListN.{length}
-use lib.Ieee.{Float}
 use borrow.Author.Tests.{eqb-true, eqb-false}
 use Rattle.ground.specs.Lists.{pick}
 use Rattle.image.specs.Panel.{panelOf}
@@ -17,24 +16,13 @@ use Rattle.search.specs.Run.{walk}
 use Rattle.search.specs.Counters.{tallyOf}
 use Rattle.search.specs.Search.{search, searchFrom, searchedAs, walked}
 use Rattle.search.specs.Rooms.{leftIn}
-use Rattle.search.specs.Answers.{Rooms, ListRooms, searchRefusal, refusedSearch, replyOf, searchAnswer, listRefusal, refusedList, written, listReplyOf, listAnswer, listedIn, listRooms}
+use Rattle.search.specs.Answers.{ListRooms, replyOf, listRefusal, refusedList, written, listReplyOf, listAnswer, listedIn, listRooms}
 use Rattle.enumeration.proofs.Tally.{walk-tallied}
 use Rattle.certificate.specs.Demand3.{ListsTheSame}
+use Rattle.certificate.proofs.Unrefused.{unrefused as search-unrefused}
+use Rattle.certificate.proofs.Reply.{reply-of}
 
--- an answer whose refusal is 0 is that of a search
-searched : (s : List ℕ) (b : SearchBudget) (xs : List Float) (rooms : Rooms) → searchAnswer s b xs rooms .refusal ≡ 0 → searchAnswer s b xs rooms ≡ replyOf (search (panelOf s) b xs)
-unfolding searchAnswer
-searched s b xs rooms = go (eqb (searchRefusal s b xs rooms .number) 0) refl
-  where
-    r : Refusal
-    r = searchRefusal s b xs rooms
-
-    go : (c : Bool) → eqb (r .number) 0 ≡ c → pick c (replyOf (search (panelOf s) b xs)) (refusedSearch r) .refusal ≡ 0
-        → pick c (replyOf (search (panelOf s) b xs)) (refusedSearch r) ≡ replyOf (search (panelOf s) b xs)
-    go true e h = refl
-    go false e h = absurd (eqb-false (r .number) 0 e h)
-
--- and one of the listing is that of its walk
+-- an answer whose refusal is 0 is that of its walk
 listed : (s : List ℕ) (b : SearchBudget) (from : ℕ) (rooms : ListRooms) → listAnswer s b from rooms .refusal ≡ 0
     → listAnswer s b from rooms ≡ listReplyOf (walk (panelOf s) b) (written from (length (rooms .out)) (walk (panelOf s) b .walk .out))
 unfolding listAnswer
@@ -69,7 +57,7 @@ unfolding replyOf search searchFrom searchedAs walked tallyOf walk listReplyOf l
 lists-the-same s b xs rooms from lent h k =
     let e : listAnswer s b from lent .evaluations ≡ walk (panelOf s) b .walk .evaluations = ap (λ (r : ListReply). r .evaluations) (listed s b from lent k) in
     record {
-      many = e ∙ sym (ap (λ (r : SearchReply). r .evaluations) (searched s b xs rooms h));
+      many = e ∙ sym (ap (λ (r : SearchReply). r .evaluations) (reply-of s b xs rooms (search-unrefused s b xs rooms h)));
       numbered = e ∙ walk-tallied (panelOf s) b;
       wrote = ap (λ (r : ListReply). r .written) (listed s b from lent k);
       words = rw (unrefused s b from lent k);

@@ -4,15 +4,14 @@ use native.Mathlib.Omega.{arith}
 use mathlib.Core.Path.{_≡_, refl, sym, ap, _∙_}
 use mathlib.Core.Logic.{_⊎_, inl, inr, _↔_}
 use mathlib.Core.Bool.{Bool, true, false, _&&_}
-use mathlib.Core.List.{List, [], _∷_, map}
+use mathlib.Core.List.{List, [], _∷_}
 use lib.Dec.{ltb}
 use lib.ListN.{length, take}
 use lib.Ieee.{Float}
-use lib.Ieee.Scale.{finite}
 use borrow.Author.Tests.{ltb-true}
 use Rattle.ground.proofs.ListLaws.{both}
 use Rattle.image.specs.Panel.{panelOf}
-use Rattle.evaluate.specs.Properties.{Each, Matched}
+use Rattle.evaluate.specs.Properties.{Matched}
 use Rattle.evaluate.specs.Refusals.{noRefusal, unless}
 use Rattle.evaluate.specs.Segments.{Assignment}
 use Rattle.evaluate.proofs.CheckLegal.{unless-zero}
@@ -22,26 +21,12 @@ use Rattle.search.specs.declared.Status.the-variants.{Certified, SupportIncompl
 use Rattle.search.specs.Budget.{widthOk, budgetOk, budgetInBounds, budgetRefusal}
 use Rattle.search.specs.Run.{Ending, exhausted, onWork, onEvaluation, onFrontier, walk}
 use Rattle.search.specs.Counters.{stopOf, statusOf, statusNumber}
-use Rattle.search.specs.Keep.{evaluated, scoresRefusal}
+use Rattle.search.specs.Keep.{scoresRefusal}
 use Rattle.search.specs.Search.{walked, evaluationRefusal, searchedAs, searchFrom, search}
 use Rattle.search.specs.Answers.{Rooms, searchRefusal, replyOf, searchAnswer}
-use Rattle.certificate.specs.Terms.{FiniteScore, Admitted, Exhausted, keptBy, handedOver, assignmentOf}
+use Rattle.certificate.specs.Terms.{FiniteScore, Admitted, Exhausted, keptBy, handedOver}
 
 -- ---- scores
-
--- each evaluation has a finite score
-pub finite-scores : (out : List Assignment) (xs : List Float) → Matched FiniteScore out (take (length out) xs) → Each (λ e. finite (e .score) ≡ true) (evaluated out xs)
-unfolding evaluated
-finite-scores [] xs h = tt
-finite-scores (a ∷ out) [] h = absurd h
-finite-scores (a ∷ out) (x ∷ xs) h = (h .0, finite-scores out xs (h .1))
-
--- the evaluations are of what was handed over
-pub all-evaluated : (out : List Assignment) (xs : List Float) → Matched FiniteScore out (take (length out) xs) → map assignmentOf (evaluated out xs) ≡ out
-unfolding evaluated
-all-evaluated [] xs h = refl
-all-evaluated (a ∷ out) [] h = absurd h
-all-evaluated (a ∷ out) (x ∷ xs) h = ap (λ (l : List Assignment). a ∷ l) (all-evaluated out xs (h .1))
 
 none-refused : (n : ℕ) (out : List Assignment) (xs : List Float) → Matched FiniteScore out (take (length out) xs) → scoresRefusal n out xs ≡ noRefusal
 unfolding scoresRefusal
@@ -94,28 +79,27 @@ some-frontier b e =
 
 -- ---- the answer
 
-module _ (s : List ℕ) (b : SearchBudget) (xs : List Float) (rooms : Rooms) (given : Admitted s b xs rooms) where
-  -- nothing is refused
-  pub admitted-passes : searchRefusal s b xs rooms .number ≡ 0
-  unfolding searchRefusal evaluationRefusal walked walk
-  admitted-passes =
-      let fine : scoresRefusal 1 (walk (panelOf s) b .walk .out) xs ≡ noRefusal = none-refused 1 (handedOver s b) xs (given .scored) in
-      rw (given .panel, given .budget, given .roomy, fine)
+-- a search that is not refused answers as it went
+pub reply-of : (s : List ℕ) (b : SearchBudget) (xs : List Float) (rooms : Rooms) → searchRefusal s b xs rooms .number ≡ 0
+    → searchAnswer s b xs rooms ≡ replyOf (search (panelOf s) b xs)
+unfolding searchAnswer
+reply-of s b xs rooms none = rw none
 
-  pub reply-is : searchAnswer s b xs rooms ≡ replyOf (search (panelOf s) b xs)
-  unfolding searchAnswer
-  reply-is = rw admitted-passes
-
-  status-is : searchAnswer s b xs rooms .status ≡ statusNumber (statusOf (stopOf (walk (panelOf s) b .ending)) (keptBy s b xs .discarded))
+module _ (s : List ℕ) (b : SearchBudget) (xs : List Float) (rooms : Rooms) (none : searchRefusal s b xs rooms .number ≡ 0) where
+  pub status-of : searchAnswer s b xs rooms .status ≡ statusNumber (statusOf (stopOf (walk (panelOf s) b .ending)) (keptBy s b xs .discarded))
   unfolding replyOf search searchFrom searchedAs walked walk
-  status-is = ap (λ (r : SearchReply). r .status) reply-is
+  status-of = ap (λ (r : SearchReply). r .status) (reply-of s b xs rooms none)
 
-  -- the search reports exhaustion exactly when its walk ended by itself
+  -- it reports exhaustion exactly when its walk ended by itself
   pub exhausted-iff : Exhausted (searchAnswer s b xs rooms) ↔ (walk (panelOf s) b .ending ≡ exhausted)
-  exhausted-iff = rw status-is (ended-status (walk (panelOf s) b .ending) (keptBy s b xs .discarded))
-
-  pub certified-exhausted : searchAnswer s b xs rooms .status ≡ statusNumber Certified → Exhausted (searchAnswer s b xs rooms)
-  certified-exhausted e = inl e
+  exhausted-iff = rw status-of (ended-status (walk (panelOf s) b .ending) (keptBy s b xs .discarded))
 
   pub certified-whole : searchAnswer s b xs rooms .status ≡ statusNumber Certified → keptBy s b xs .discarded ≡ false
-  certified-whole e = certified-status (walk (panelOf s) b .ending) (keptBy s b xs .discarded) (sym status-is ∙ e)
+  certified-whole e = certified-status (walk (panelOf s) b .ending) (keptBy s b xs .discarded) (sym status-of ∙ e)
+
+-- nothing of an admitted search is refused
+pub admitted-passes : (s : List ℕ) (b : SearchBudget) (xs : List Float) (rooms : Rooms) → Admitted s b xs rooms → searchRefusal s b xs rooms .number ≡ 0
+unfolding searchRefusal evaluationRefusal walked walk
+admitted-passes s b xs rooms given =
+    let fine : scoresRefusal 1 (walk (panelOf s) b .walk .out) xs ≡ noRefusal = none-refused 1 (handedOver s b) xs (given .scored) in
+    rw (given .panel, given .budget, given .roomy, fine)

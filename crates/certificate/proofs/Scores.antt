@@ -2,40 +2,35 @@
 use Prim.Native.Nat.{ℕ, _+_, _<_}
 use native.Mathlib.Omega.{arith}
 use mathlib.Core.Path.{_≡_, refl, sym, ap, _∙_, subst}
-use mathlib.Core.Logic.{⊎-elim, _↔_}
-use mathlib.Core.Bool.{Bool, true, false, not, true≢false}
+use mathlib.Core.Logic.{inl, ⊎-elim, _↔_}
+use mathlib.Core.Bool.{Bool, true, false, not}
 use mathlib.Core.List.{List, [], _∷_, _++_, map, head-eq-of-cons-eq, List·Memᴰ, List·Memᴰ·not-nil, Memᴰ·cast, Memᴰ·append-right}
 use lib.Dec.{T}
 use lib.ListN.{length, length-append, length-map}
 use lib.Ieee as Ieee
 use lib.Ieee.{Float}
-use lib.Ieee.Scale.{finite}
 use Rattle.ground.specs.Lists.{keep}
 use Rattle.image.specs.Panel.{panelOf}
 use Rattle.evaluate.specs.Properties.{Each, Pairs}
 use Rattle.evaluate.specs.Segments.{Assignment}
 use Rattle.evaluate.specs.Legal.{Legal}
 use Rattle.search.specs.declared.SearchBudget.{SearchBudget}
-use Rattle.search.specs.Run.{nativesOf, walk}
+use Rattle.search.specs.Run.{nativesOf}
 use Rattle.search.specs.Keep.{Kept, nothing, Evaluated, scoreOf, sameAssignment, sameEvaluated, tiedTo, tiesTo, keepAll}
-use Rattle.search.specs.Search.{walked, keptOf, searchedAs, searchFrom, search}
 use Rattle.search.specs.Answers.{Rooms, searchAnswer}
-use Rattle.evaluate.proofs.Lists.{keep-only, keep-in, pairs-keep, pairs-through, each-mem, each-map, mem-map, mem-map-in}
+use Rattle.evaluate.proofs.Lists.{keep-only, keep-in, pairs-keep, pairs-through, each-mem, mem-map}
 use Rattle.search.proofs.Same.{assignments-decide}
 use Rattle.enumeration.proofs.Suffice.{natives-length}
-use Rattle.scoring.proofs.Order.{lt→not-le}
-use Rattle.scoring.proofs.Rule.{Finite, champion, champion-least, champion-one, incumbent, scoring, firsts, tied-from}
+use Rattle.scoring.proofs.Order.{is-T, lt→not-le}
+use Rattle.scoring.proofs.Rule.{Finite, champion, champion-least, champion-one, incumbent, scoring, firsts}
 use Rattle.scoring.proofs.Firsts.{firsts-only, firsts-all, firsts-once, firsts-ahead, Ahead, Other}
 use Rattle.certificate.specs.Terms.{Admitted, Exhausted, Scores, evaluations, handedOver, keptBy, NativesThenLegal, Least, Ties, NoTwo, Earlier, assignmentOf}
 use Rattle.certificate.specs.Demand3.{AllScored, IncumbentIsLeast, TiedAre, TiedAreAll}
-use Rattle.certificate.proofs.Reply.{finite-scores, all-evaluated, certified-exhausted, certified-whole}
+use Rattle.certificate.proofs.Reply.{admitted-passes, certified-whole}
+use Rattle.certificate.proofs.Evaluated.{kept-is, made, finites, handed-of}
 use Rattle.certificate.proofs.Walk.{all-evaluated-once, handed-legal}
 
 -- ---- tests and truths
-
-is-T : (b : Bool) → b ≡ true → T b
-is-T true e = tt
-is-T false e = absurd (true≢false (sym e))
 
 not-lower : (x y : Float) → T (Ieee.le y x) → Ieee.lt x y ≡ false
 not-lower x y h = go (Ieee.lt x y) refl (Ieee.le y x) refl h
@@ -58,29 +53,9 @@ map-append f [] m = refl
 map-append f (a ∷ l) m = ap (λ x. f a ∷ x) (map-append f l m)
 
 module _ (s : List ℕ) (b : SearchBudget) (xs : List Float) (rooms : Rooms) (given : Admitted s b xs rooms) where
-  made : map assignmentOf (evaluations s b xs) ≡ handedOver s b
-  made = all-evaluated (handedOver s b) xs (given .scored)
-
-  kept-is : keptBy s b xs ≡ keepAll scoreOf sameEvaluated (b .«max_optima») (b .«tie_width») nothing (evaluations s b xs)
-  unfolding search searchFrom searchedAs keptOf walked walk
-  kept-is = refl
-
-  finites : Each (Finite scoreOf) (evaluations s b xs)
-  finites = each-map (λ (e : Evaluated). finite (e .score) ≡ true) (Finite scoreOf) (λ e q. is-T (finite (e .score)) q) (evaluations s b xs) (finite-scores (handedOver s b) xs (given .scored))
-
-  -- an evaluation is of something handed over
-  pub handed-of : (e : Evaluated) → List·Memᴰ e (evaluations s b xs) → List·Memᴰ (e .assignment) (handedOver s b)
-  handed-of e m = subst (λ (l : List Assignment). List·Memᴰ (e .assignment) l) made (mem-map-in assignmentOf m)
-
-  -- discarded or not, what is tied was evaluated
-  pub tied-evaluated : (e : Evaluated) → List·Memᴰ e (keptBy s b xs .tied) → List·Memᴰ e (evaluations s b xs)
-  tied-evaluated e m =
-      ⊎-elim (λ k. absurd (List·Memᴰ·not-nil k)) (λ k. k)
-      (tied-from scoreOf sameEvaluated (b .«max_optima») (b .«tie_width») nothing (evaluations s b xs) e (subst (λ (k : Kept Evaluated). List·Memᴰ e (k .tied)) kept-is m))
-
   scored-of : (a : Assignment) → List·Memᴰ a (handedOver s b) → (x : Float) × Scores s b xs a x
   scored-of a m =
-      let r = mem-map assignmentOf (evaluations s b xs) (subst (λ (l : List Assignment). List·Memᴰ a l) (sym made) m) in
+      let r = mem-map assignmentOf (evaluations s b xs) (subst (λ (l : List Assignment). List·Memᴰ a l) (sym (made s b xs (given .scored))) m) in
       (r .0 .score, Memᴰ·cast (λ i. record { assignment = r .2 i; score = r .0 .score }) (r .1))
 
   -- ---- where the search reports exhaustion
@@ -90,7 +65,7 @@ module _ (s : List ℕ) (b : SearchBudget) (xs : List Float) (rooms : Rooms) (gi
     whole = all-evaluated-once s b xs rooms given told
 
     legal-of : (e : Evaluated) → List·Memᴰ e (evaluations s b xs) → Legal (panelOf s) (e .assignment)
-    legal-of e m = handed-legal s (handedOver s b) (given .panel) whole (e .assignment) (handed-of e m)
+    legal-of e m = handed-legal s (handedOver s b) (given .panel) whole (e .assignment) (handed-of s b xs (given .scored) e m)
 
     scored : (a : Assignment) → Legal (panelOf s) a → (x : Float) × Scores s b xs a x
     scored a l = scored-of a (subst (λ (t : List Assignment). List·Memᴰ a t) (sym (whole .first)) (Memᴰ·append-right (nativesOf (panelOf s)) (whole .legal a .1 l)))
@@ -98,7 +73,7 @@ module _ (s : List ℕ) (b : SearchBudget) (xs : List Float) (rooms : Rooms) (gi
     -- there is one: a family has a native
     some : 0 < length (evaluations s b xs)
     some =
-        let n : length (map assignmentOf (evaluations s b xs)) ≡ length (nativesOf (panelOf s) ++ whole .found) = ap length (made ∙ whole .first) in
+        let n : length (map assignmentOf (evaluations s b xs)) ≡ length (nativesOf (panelOf s) ++ whole .found) = ap length ((made s b xs (given .scored)) ∙ whole .first) in
         let m : length (map assignmentOf (evaluations s b xs)) ≡ length (evaluations s b xs) = length-map (evaluations s b xs) assignmentOf in
         let k : length (nativesOf (panelOf s) ++ whole .found) ≡ length (nativesOf (panelOf s)) + length (whole .found) = length-append (nativesOf (panelOf s)) (whole .found) in
         let j = natives-length (panelOf s) in
@@ -113,7 +88,7 @@ module _ (s : List ℕ) (b : SearchBudget) (xs : List Float) (rooms : Rooms) (gi
 
       best-is : keptBy s b xs .best ≡ best ∷ []
       best-is =
-          ap (λ (k : Kept Evaluated). k .best) kept-is
+          ap (λ (k : Kept Evaluated). k .best) (kept-is s b xs)
           ∙ ap (λ (t : List Evaluated). keepAll scoreOf sameEvaluated (b .«max_optima») (b .«tie_width») nothing t .best) are
           ∙ incumbent scoreOf sameEvaluated (b .«max_optima») (b .«tie_width») e l
 
@@ -122,7 +97,7 @@ module _ (s : List ℕ) (b : SearchBudget) (xs : List Float) (rooms : Rooms) (gi
 
       none-less : (d : Evaluated) → List·Memᴰ d (evaluations s b xs) → T (Ieee.le (best .score) (d .score))
       none-less d m =
-          each-mem (λ (d : Evaluated). T (Ieee.le (best .score) (d .score))) (e ∷ l) (champion-least scoreOf e l (subst (Each (Finite scoreOf)) are finites))
+          each-mem (λ (d : Evaluated). T (Ieee.le (best .score) (d .score))) (e ∷ l) (champion-least scoreOf e l (subst (Each (Finite scoreOf)) are (finites s b xs (given .scored))))
           (subst (λ (t : List Evaluated). List·Memᴰ d t) are m)
 
       least : Least s b xs best
@@ -140,10 +115,10 @@ module _ (s : List ℕ) (b : SearchBudget) (xs : List Float) (rooms : Rooms) (gi
         tied-is : keptBy s b xs .tied ≡ keep near first
         unfolding tiesTo
         tied-is =
-            ap (λ (k : Kept Evaluated). k .tied) kept-is
+            ap (λ (k : Kept Evaluated). k .tied) (kept-is s b xs)
             ∙ ap (λ (t : List Evaluated). keepAll scoreOf sameEvaluated (b .«max_optima») (b .«tie_width») nothing t .tied) are
-            ∙ scoring scoreOf sameEvaluated (b .«max_optima») (b .«tie_width») e l (subst (Each (Finite scoreOf)) are finites) agree
-            (ap (λ (t : List Evaluated). keepAll scoreOf sameEvaluated (b .«max_optima») (b .«tie_width») nothing t .discarded) (sym are) ∙ ap (λ (k : Kept Evaluated). k .discarded) (sym kept-is) ∙ kept)
+            ∙ scoring scoreOf sameEvaluated (b .«max_optima») (b .«tie_width») e l (subst (Each (Finite scoreOf)) are (finites s b xs (given .scored))) agree
+            (ap (λ (t : List Evaluated). keepAll scoreOf sameEvaluated (b .«max_optima») (b .«tie_width») nothing t .discarded) (sym are) ∙ ap (λ (k : Kept Evaluated). k .discarded) (sym (kept-is s b xs)) ∙ kept)
             ∙ ap (λ (t : List Evaluated). keep near (firsts sameEvaluated [] t)) (sym are)
           where
             back : (d : Evaluated) → List·Memᴰ d (e ∷ l) → List·Memᴰ d (evaluations s b xs)
@@ -187,7 +162,7 @@ module _ (s : List ℕ) (b : SearchBudget) (xs : List Float) (rooms : Rooms) (gi
             record {
               before = map assignmentOf u;
               after = map assignmentOf v;
-              split = sym made ∙ ap (map assignmentOf) (h .2) ∙ map-append assignmentOf u (d ∷ v);
+              split = sym (made s b xs (given .scored)) ∙ ap (map assignmentOf) (h .2) ∙ map-append assignmentOf u (d ∷ v);
               none = λ m. let r = mem-map assignmentOf u m in h .3 (r .0) (r .1) (sym (r .2));
             }
 
@@ -218,13 +193,13 @@ incumbent-is-least s b xs rooms given told = go (evaluations s b xs) refl (some 
 
 pub tied-are-all : TiedAreAll
 tied-are-all s b xs rooms given certified i is =
-    go (evaluations s b xs) refl (some s b xs rooms given (certified-exhausted s b xs rooms given certified))
+    go (evaluations s b xs) refl (some s b xs rooms given (inl certified))
   where
     told : Exhausted (searchAnswer s b xs rooms)
-    told = certified-exhausted s b xs rooms given certified
+    told = inl certified
 
     go : (l : List Evaluated) → evaluations s b xs ≡ l → 0 < length (evaluations s b xs) → TiedAre s b xs i
     go [] e h = let z : length (evaluations s b xs) ≡ 0 = ap length e in absurd (omega arith)
     go (d ∷ l) e h =
         let same : champion scoreOf d l ≡ i = head-eq-of-cons-eq (sym (best-is s b xs rooms given told d l e) ∙ is) in
-        subst (TiedAre s b xs) same (tied s b xs rooms given told d l e (certified-whole s b xs rooms given certified))
+        subst (TiedAre s b xs) same (tied s b xs rooms given told d l e (certified-whole s b xs rooms (admitted-passes s b xs rooms given) certified))

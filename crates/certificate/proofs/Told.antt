@@ -19,25 +19,27 @@ use Rattle.search.specs.declared.SearchReply.{SearchReply}
 use Rattle.search.specs.Budget.{zeroScore}
 use Rattle.search.specs.Keep.{Kept, Evaluated, scoreOf}
 use Rattle.search.specs.Rooms.{padTo, padScores, slotWidth, slotWords, keptNeeded, scoresNeeded, keptLeft, keptScoresLeft, leftIn}
-use Rattle.search.specs.Answers.{Rooms, replyOf, searchAnswer, roomsAfter, searchRooms}
+use Rattle.search.specs.Answers.{Rooms, searchRefusal, replyOf, searchAnswer, roomsAfter, searchRooms}
 use Rattle.search.proofs.Sizes.{pad-length}
 use Rattle.enumeration.proofs.Room.{handed-fits}
-use Rattle.certificate.specs.Terms.{Admitted, keptBy, evaluations, handedOver}
+use Rattle.certificate.specs.Terms.{keptBy, evaluations, handedOver}
 use Rattle.certificate.specs.Told.{InSlot, RoomsTell}
-use Rattle.certificate.proofs.Reply.{some-frontier, admitted-passes, reply-is}
-use Rattle.certificate.proofs.Scores.{handed-of, tied-evaluated, incumbent-is-least}
+use Rattle.certificate.proofs.Reply.{some-frontier, admitted-passes, reply-of}
+use Rattle.certificate.proofs.Evaluated.{tied-evaluated, best-evaluated, handed-of}
+use Rattle.certificate.proofs.Unrefused.{Unrefused, none-refuses}
+use Rattle.certificate.proofs.Scores.{incumbent-is-least}
 
 -- ---- slots, one behind the other
 
 -- the words begin so
-record Starts (l ws : List ℕ) : Type 0 where
-  rest : List ℕ
-  is : ws ≡ l ++ rest
+pub record Starts (l ws : List ℕ) : Type 0 where
+  pub rest : List ℕ
+  pub is : ws ≡ l ++ rest
 
 starts-append : {l ws : List ℕ} (more : List ℕ) → Starts l ws → Starts l (ws ++ more)
 starts-append {l} more h = record { rest = h .rest ++ more; is = ap (λ (x : List ℕ). x ++ more) (h .is) ∙ append-assoc l (h .rest) more }
 
-abbrev Fits : ℕ → Evaluated → Type 0
+abbrev pub Fits : ℕ → Evaluated → Type 0
 Fits v e = length (encode (e .assignment)) ≤ v
 
 slot-length : (v : ℕ) (e : Evaluated) → Fits v e → length (slotWords v e) ≡ v
@@ -65,7 +67,13 @@ scores-at (e ∷ t) more d (suc j) lt = scores-at t more d j (omega arith)
 
 -- ---- the rooms at exit
 
-module _ (s : List ℕ) (b : SearchBudget) (xs : List Float) (rooms : Rooms) (given : Admitted s b xs rooms) where
+-- slot n of v words begins with the words of e's assignment, and score n is e's
+pub record Lies (v : ℕ) (rooms : Rooms) (n : ℕ) (e : Evaluated) : Type 0 where
+  pub words : Starts (encode (e .assignment)) (drop (n * v) (rooms .kept))
+  pub score : getD (rooms .scores) n zeroScore ≡ e .score
+
+-- of a search that was not refused
+module _ (s : List ℕ) (b : SearchBudget) (xs : List Float) (rooms : Rooms) (none : searchRefusal s b xs rooms .number ≡ 0) where
   abbrev v : ℕ
   v = slotWidth (panelOf s) b
 
@@ -74,15 +82,11 @@ module _ (s : List ℕ) (b : SearchBudget) (xs : List Float) (rooms : Rooms) (gi
 
   kept-room : searchRooms s b xs rooms .kept ≡ over (keptLeft (panelOf s) b kept) (rooms .kept)
   unfolding searchRooms roomsAfter leftIn
-  kept-room = rw (admitted-passes s b xs rooms given)
+  kept-room = rw none
 
   score-room : searchRooms s b xs rooms .scores ≡ over (keptScoresLeft b kept) (rooms .scores)
   unfolding searchRooms roomsAfter leftIn
-  score-room = rw (admitted-passes s b xs rooms given)
-
-  fits : (e : Evaluated) → List·Memᴰ e (evaluations s b xs) → Fits v e
-  fits e m =
-      each-mem (λ (a : Assignment). length (encode a) ≤ v) (handedOver s b) (handed-fits (panelOf s) b (some-frontier b (given .budget))) (handed-of s b xs rooms given e m)
+  score-room = rw none
 
   -- with the incumbent i, the rooms are a slot and a score for each of i and the tied list, and more
   module _ (i : Evaluated) (is : kept .best ≡ i ∷ []) (own : Fits v i) where
@@ -105,11 +109,11 @@ module _ (s : List ℕ) (b : SearchBudget) (xs : List Float) (rooms : Rooms) (gi
         one =
             ap (λ (l : List Evaluated). padTo v (flat (map (slotWords v) l))) is
             ∙ ap (padTo v) (append-nil (slotWords v i))
-            ∙ ap (λ (n : ℕ). slotWords v i ++ replicate n 0) (let n = slot-length v i own in none n)
+            ∙ ap (λ (n : ℕ). slotWords v i ++ replicate n 0) (let n = slot-length v i own in no-more n)
             ∙ append-nil (slotWords v i)
           where
-            none : length (slotWords v i) ≡ v → v - length (slotWords v i) ≡ 0
-            none n = omega arith
+            no-more : length (slotWords v i) ≡ v → v - length (slotWords v i) ≡ 0
+            no-more n = omega arith
 
     all-scores : (more : List Float) × (searchRooms s b xs rooms .scores ≡ map scoreOf (i ∷ kept .tied) ++ more)
     unfolding keptScoresLeft
@@ -131,33 +135,57 @@ module _ (s : List ℕ) (b : SearchBudget) (xs : List Float) (rooms : Rooms) (gi
             ap (λ (l : List Evaluated). padScores 1 (map scoreOf l)) is
             ∙ ap (λ (n : ℕ). (i .score ∷ []) ++ replicate n zeroScore) (let e : 1 - length {A = Float} (i .score ∷ []) ≡ 0 = omega arith in e)
 
-    in-slot : Each (Fits v) (i ∷ kept .tied) → (d : Evaluated) (n : ℕ) → n < length (i ∷ kept .tied) → InSlot (slotWidth (panelOf s) b) (searchRooms s b xs rooms) n (getD (i ∷ kept .tied) n d)
-    in-slot all d n lt =
+    pub lies : Each (Fits (slotWidth (panelOf s) b)) (i ∷ kept .tied) → (d : Evaluated) (n : ℕ) → n < length (i ∷ keptBy s b xs .tied)
+        → Lies (slotWidth (panelOf s) b) (searchRooms s b xs rooms) n (getD (i ∷ keptBy s b xs .tied) n d)
+    lies all d n lt =
         let (more, e) = all-slots in
         let w = slots-at v (i ∷ kept .tied) more d all n lt in
         let (most, f) = all-scores in
         record {
-          left = w .rest;
-          words = ap (λ (l : List ℕ). readAssignment (drop (n * v) l)) e ∙ ap readAssignment (w .is) ∙ read-encode (getD (i ∷ kept .tied) n d .assignment) (w .rest);
+          words = record { rest = w .rest; is = ap (λ (l : List ℕ). drop (n * v) l) e ∙ w .is };
           score = ap (λ (l : List Float). getD l n zeroScore) f ∙ scores-at (i ∷ kept .tied) most d n lt;
         }
 
-  tied-many : searchAnswer s b xs rooms .optima ≡ length (kept .tied)
+  pub tied-many : searchAnswer s b xs rooms .optima ≡ length (keptBy s b xs .tied)
   unfolding replyOf
-  tied-many = ap (λ (r : SearchReply). r .optima) (reply-is s b xs rooms given)
+  tied-many = ap (λ (r : SearchReply). r .optima) (reply-of s b xs rooms none)
+
+-- what is evaluated fits its slot
+pub evaluated-fits : (s : List ℕ) (b : SearchBudget) (xs : List Float) (rooms : Rooms) → Unrefused s b xs rooms → (e : Evaluated) → List·Memᴰ e (evaluations s b xs)
+    → Fits (slotWidth (panelOf s) b) e
+evaluated-fits s b xs rooms given e m =
+    each-mem (λ (a : Assignment). length (encode a) ≤ slotWidth (panelOf s) b) (handedOver s b) (handed-fits (panelOf s) b (some-frontier b (given .budget)))
+    (handed-of s b xs (given .scored) e m)
+
+pub kept-fit : (s : List ℕ) (b : SearchBudget) (xs : List Float) (rooms : Rooms) → Unrefused s b xs rooms → (i : Evaluated) → List·Memᴰ i (evaluations s b xs)
+    → Each (Fits (slotWidth (panelOf s) b)) (i ∷ keptBy s b xs .tied)
+kept-fit s b xs rooms given i m = (
+  evaluated-fits s b xs rooms given i m,
+  mem-each (Fits (slotWidth (panelOf s) b)) (keptBy s b xs .tied) (λ e k. evaluated-fits s b xs rooms given e (tied-evaluated s b xs e k)),
+)
+
+in-slot : (v : ℕ) (rooms : Rooms) (n : ℕ) (e : Evaluated) → Lies v rooms n e → InSlot v rooms n e
+in-slot v rooms n e h =
+    record { left = h .words .rest; words = ap readAssignment (h .words .is) ∙ read-encode (e .assignment) (h .words .rest); score = h .score }
+
+-- whatever the status: with the incumbent i, slot 0 holds it, and the slots behind it the tied list
+pub slot-told : (s : List ℕ) (b : SearchBudget) (xs : List Float) (rooms : Rooms) → searchRefusal s b xs rooms .number ≡ 0 → (i : Evaluated) → keptBy s b xs .best ≡ i ∷ []
+    → (d : Evaluated) (n : ℕ) → n < length (i ∷ keptBy s b xs .tied) → InSlot (slotWidth (panelOf s) b) (searchRooms s b xs rooms) n (getD (i ∷ keptBy s b xs .tied) n d)
+slot-told s b xs rooms none i is d n lt =
+    let given = none-refuses s b xs rooms none in
+    let m = best-evaluated s b xs i is in
+    in-slot _ _ n (getD (i ∷ keptBy s b xs .tied) n d) (lies s b xs rooms none i is (evaluated-fits s b xs rooms given i m) (kept-fit s b xs rooms given i m) d n lt)
 
 pub rooms-tell : RoomsTell
 rooms-tell s b xs rooms given told =
     let r = incumbent-is-least s b xs rooms given told in
-    let own = fits s b xs rooms given (r .0) (r .2 .scores) in
-    let all : Each (Fits (slotWidth (panelOf s) b)) (r .0 ∷ keptBy s b xs .tied)
-    = (own, mem-each (Fits (slotWidth (panelOf s) b)) (keptBy s b xs .tied) (λ e m. fits s b xs rooms given e (tied-evaluated s b xs rooms given e m))) in
-    let n = tied-many s b xs rooms given in
+    let none = admitted-passes s b xs rooms given in
+    let n = tied-many s b xs rooms none in
     record {
       incumbent = r .0;
       best = r .1;
       least = r .2;
-      slot = in-slot s b xs rooms given (r .0) (r .1) own all (r .0) 0 (omega arith);
+      slot = slot-told s b xs rooms none (r .0) (r .1) (r .0) 0 (omega arith);
       many = n;
-      slots = λ d j lt. in-slot s b xs rooms given (r .0) (r .1) own all d (suc j) (omega arith);
+      slots = λ d j lt. slot-told s b xs rooms none (r .0) (r .1) d (suc j) (omega arith);
     }

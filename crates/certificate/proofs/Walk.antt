@@ -17,14 +17,14 @@ use Rattle.enumeration.proofs.Accepted.{accepted-ends}
 use Rattle.enumeration.proofs.Suffice.{one-end, ends-iff, ends-as}
 use Rattle.certificate.specs.Terms.{PanelAccepted, NativesThenLegal}
 use Rattle.certificate.specs.Demand3.{WalkEnds, WholeWalk, ExhaustedWhenEnough, AllEvaluated}
-use Rattle.certificate.proofs.Reply.{some-frontier, exhausted-iff}
+use Rattle.certificate.proofs.Reply.{some-frontier, admitted-passes, exhausted-iff}
 
 pub walk-ends : WalkEnds
 walk-ends s e = let r = accepted-ends s e in record { steps = r .run .0; final = r .final; ends = r .run .1 }
 
 pub exhausted-when-enough : ExhaustedWhenEnough
 exhausted-when-enough s b xs rooms given u =
-    let i = exhausted-iff s b xs rooms given in
+    let i = exhausted-iff s b xs rooms (admitted-passes s b xs rooms given) in
     let j = ends-iff (panelOf s) b (given .families) (some-frontier b (given .budget)) u in
     (λ h. j .0 (i .0 h), λ h. i .1 (j .1 h))
 
@@ -43,7 +43,7 @@ whole-walk s e u =
 pub all-evaluated-once : AllEvaluated
 all-evaluated-once s b xs rooms given h =
     let u = walk-ends s (given .panel) in
-    let same = ends-as (panelOf s) b (given .families) (some-frontier b (given .budget)) u (exhausted-iff s b xs rooms given .0 h) in
+    let same = ends-as (panelOf s) b (given .families) (some-frontier b (given .budget)) u (exhausted-iff s b xs rooms (admitted-passes s b xs rooms given) .0 h) in
     subst (λ (w : Walk). NativesThenLegal (panelOf s) (w .out)) (sym same) (whole-walk s (given .panel) u)
 
 -- ---- whatever was handed over is legal

@@ -24,7 +24,7 @@ use Rattle.graph.specs.Check.{portsChecked, later, checked}
 use Rattle.evaluate.specs.declared.Segment.{Segment}
 use Rattle.graph.specs.PanelE.{panelE}
 use Rattle.graph.specs.Check.{panelRefusal}
-use Rattle.evaluate.specs.Segments.{joining, normalize, overlap}
+use Rattle.evaluate.specs.Segments.{Assignment, joining, normalize, overlap}
 use Rattle.storage.specs.Records.{sameTurn}
 use Rattle.graph.specs.Lookups.{portsAt, bucketLo, bucketHi}
 use Rattle.evaluate.specs.Words.{encode}
@@ -87,6 +87,7 @@ pub record Answers : Type 0 where
   pub answer : SearchBudget → SearchReply
   pub left : SearchBudget → Rooms
   pub kept : SearchBudget → Kept Evaluated
+  pub handed : SearchBudget → List Assignment
 
 unfoldable pub on : List ℕ → Answers
 unfolding little number each split sum all any count keep after rising numbersFrom distinct portOf wordOrder portOrder headerOf sound2 sound3 opened entryOf entries counts pathCounts paths lanePorts hub portsOf startOf families pathsOf zipLanes panelBy panelOf countOk names noTwice sound5a sound5b sound5 lengthOk sound4 letter soundPlace soundRecord soundRecords placeOf placeLt recordLt hubRising laneRising lanesRising samePort listed sound8 from ownRow ownRows sound6 sound7 portsChecked later checked panelE panelRefusal joining portsAt standsAt encode widthOk budgetOk budgetInBounds budgetRefusal enter terminalTask memberTask portUnit hubUnit unitOf units run seeds seeded afterSeeding walkFrom walk mostSwitches tallyOf tiesTo lowered added keepOne keepAll sameList evaluated scoresRefusal walked evaluationRefusal keptOf searchedAs searchFrom search stackWords framesLeft mostPaths slotWidth keptLeft keptScoresLeft roomsRefusal leftIn searchRefusal replyOf searchAnswer roomsAfter searchRooms bucketOf wordBelow wordUpTo Ieee.lt Ieee.le Ieee.sub Ieee.ofBits
@@ -96,6 +97,7 @@ on s =
       answer = λ b. searchAnswer s b scores rooms;
       left = λ b. searchRooms s b scores rooms;
       kept = λ b. search (panelOf s) b scores .state .kept;
+      handed = λ b. walk (panelOf s) b .walk .out;
     }
 
 -- the bucket of a word of two letters on panel E

@@ -12,7 +12,7 @@ use Rattle.ground.specs.Lists.{pick}
 use Rattle.image.specs.Panel.{Panel, pathsAt}
 use Rattle.search.specs.declared.SearchBudget.{SearchBudget}
 use Rattle.search.specs.Walk.{pass, down, give, Frame, Act, leave, doing, enter, unitOf, takesMember}
-use Rattle.search.specs.Run.{Walk, Ending, exhausted, onWork, onEvaluation, onFrontier, Phase, going, ended, Limits, limitsOf, unlimited, root, stacked, begin, spend, handed, doneWith, afterAct, onTop, unit, units, framesOf, deepest}
+use Rattle.search.specs.Run.{Walk, Ending, exhausted, onWork, onEvaluation, onFrontier, Phase, going, ended, Limits, limitsOf, unlimited, root, stacked, begin, spend, handed, doneWith, afterAct, onTop, unit, units, stopped, framesOf, deepest}
 use Rattle.enumeration.proofs.Whole.{ended-stays}
 
 abbrev pub walkIn : Phase → Walk
@@ -25,7 +25,7 @@ Live (going w) = 0 < length (w .stack)
 Live (ended e w) = Unit
 
 -- a stop that is no exhaustion
-abbrev Short : Ending → Type 0
+abbrev pub Short : Ending → Type 0
 Short exhausted = ⊥
 Short onWork = Unit
 Short onEvaluation = Unit
@@ -35,11 +35,14 @@ abbrev Stops : Phase → Type 0
 Stops (going w) = ⊥
 Stops (ended e w) = Short e
 
+pub short-ends : (e : Ending) → Short e → e ≡ exhausted → ⊥
+short-ends exhausted h q = h
+short-ends onWork h q = let z : _≡_ {A = ℕ} 0 1 = cc in omega arith
+short-ends onEvaluation h q = let z : _≡_ {A = ℕ} 0 1 = cc in omega arith
+short-ends (onFrontier a) h q = let z : _≡_ {A = ℕ} 0 1 = cc in omega arith
+
 ended-by : (e : Ending) (w W : Walk) → Short e → ended e w ≡ ended exhausted W → ⊥
-ended-by exhausted w W h q = h
-ended-by onWork w W h q = let z : _≡_ {A = ℕ} 0 1 = cc in omega arith
-ended-by onEvaluation w W h q = let z : _≡_ {A = ℕ} 0 1 = cc in omega arith
-ended-by (onFrontier a) w W h q = let z : _≡_ {A = ℕ} 0 1 = cc in omega arith
+ended-by e w W h q = short-ends e h (ap (λ (s : Phase). stopped s .ending) q)
 
 going-ended : (w : Walk) (e : Ending) (W : Walk) → going w ≡ ended e W → ⊥
 going-ended w e W q = let z : _≡_ {A = ℕ} 0 1 = cc in omega arith

@@ -12,3 +12,6 @@ pub mod Budgets
 pub mod Suffice
 pub mod Tally
 pub mod Room
+pub mod Limits
+pub mod Behind
+pub mod Resumed

@@ -41,10 +41,10 @@ module _ (p : Panel) where
   seeds-whole f (l ∷ ls) (suc w) (suc e) q = let r = seeds-whole (suc f) ls w e (omega arith) in let x = r .0 in let y = r .1 in (omega arith, omega arith)
 
   module _ (b : SearchBudget) where
-    abbrev given : List Assignment
+    abbrev pub given : List Assignment
     given = seeds p 0 (p .families) (b .«max_work») (b .«max_evaluations»)
 
-    seeded-walk : walk p b ≡ afterSeeding p b (seededWith untouched given)
+    pub seeded-walk : walk p b ≡ afterSeeding p b (seededWith untouched given)
     unfolding walk walkFrom seeded
     seeded-walk =
         let w : b .«max_work» - 0 ≡ b .«max_work» = omega arith in
@@ -68,7 +68,7 @@ one-end p lim m n s v w e f =
     let y : units p lim (n + m) s ≡ ended exhausted w = units-add p lim n m s ∙ ap (units p lim m) f ∙ ended-stays p lim m exhausted w in
     ap walkIn (sym x ∙ ap (λ (i : ℕ). units p lim i s) (add-comm m n) ∙ y)
 
-short-not : (b : SearchBudget) (w : Walk) → short b w .ending ≡ exhausted → ⊥
+pub short-not : (b : SearchBudget) (w : Walk) → short b w .ending ≡ exhausted → ⊥
 short-not b w = go (leb (b .«max_evaluations») (w .natives))
   where
     go : (t : Bool) → pick t onEvaluation onWork ≡ exhausted → ⊥

@@ -2,3 +2,5 @@ pub mod Order
 pub mod Sub
 pub mod Rule
 pub mod Firsts
+pub mod Width
+pub mod Longer
