@@ -624,6 +624,10 @@ impl<'a, E: Evaluations> Walk<'a, E> {
                         let slot = self.frames[self.frames.len() - 1].slot;
                         self.path.push((slot, piece));
                         if self.frames.len() as u64 >= self.budget.max_frontier {
+                            if cfg!(feature = "fault-frontier") {
+                                self.path.pop();
+                                continue;
+                            }
                             self.pending = Some(child);
                             return Ok(Some(Status::Frontier));
                         }

@@ -7,7 +7,6 @@ use lib.ListN.{length, getD}
 use lib.Ieee.{Float}
 use Rattle.image.specs.Panel.{panelOf}
 use Rattle.evaluate.specs.Properties.{Pairs}
-use Rattle.evaluate.specs.Segments.{Assignment}
 use Rattle.search.specs.declared.SearchBudget.{SearchBudget}
 use Rattle.search.specs.declared.SearchReply.{SearchReply}
 use Rattle.search.specs.declared.Status.the-variants.{Certified}
@@ -16,14 +15,14 @@ use Rattle.search.specs.Counters.{statusNumber}
 use Rattle.search.specs.Keep.{Evaluated}
 use Rattle.search.specs.Rooms.{slotWidth}
 use Rattle.search.specs.Answers.{Rooms}
-use Rattle.certificate.specs.Terms.{Exhausted, Scores, NativesThenLegal, handedOver, Least, Ties, NoTwo, Earlier, assignmentOf}
+use Rattle.certificate.specs.Terms.{Agreed, Exhausted, NativesThenLegal, handedOver, Least, Ties, NoTwo, Earlier, assignmentOf}
 use Rattle.certificate.specs.Told.{InSlot}
 
 -- the search was not refused, there is a family, and equal assignments have equal scores
 pub record Asked (s : List ℕ) (b : SearchBudget) (xs : List Float) (r : SearchReply) : Type 0 where
   pub passed : r .refusal ≡ 0
   pub families : 0 < length (panelOf s .families)
-  pub agreed : (a : Assignment) (x y : Float) → Scores s b xs a x → Scores s b xs a y → x ≡ y
+  pub agreed : Agreed s b xs
 
 -- the tied list holds exactly the legal assignments within the tie width of the incumbent, each once, in the order in which they were first
 -- handed over

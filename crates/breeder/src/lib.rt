@@ -35,7 +35,7 @@ pub fn raise(
     larger_kept: &mut [u64],
     larger_scores: &mut [f64],
 ) -> Replies
-    ensures { λ r. ⌜ RaisedOnlyAdds (now (image .entry)) smaller larger (record { frames = now (frames .exit); kept = now (kept .exit); scores = now («kept_scores» .exit) }) (record { frames = now («larger_frames» .exit); kept = now («larger_kept» .exit); scores = now («larger_scores» .exit) }) (r .smaller) (r .larger) ⌝ }
+    ensures { λ r. ⌜ RaisedOnlyAdds (now (image .entry)) smaller larger (now (scores .entry)) (record { frames = now (frames .exit); kept = now (kept .exit); scores = now («kept_scores» .exit) }) (record { frames = now («larger_frames» .exit); kept = now («larger_kept» .exit); scores = now («larger_scores» .exit) }) (r .smaller) (r .larger) ⌝ }
 {
     let first = panel_routes::panel_routes_search(
         image,

@@ -13,11 +13,19 @@ use Rattle.evaluate.specs.Segments.{Assignment}
 use Rattle.evaluate.proofs.Lists.{each-map, mem-map-in}
 use Rattle.search.specs.declared.SearchBudget.{SearchBudget}
 use Rattle.search.specs.Run.{walk}
-use Rattle.search.specs.Keep.{Kept, nothing, Evaluated, scoreOf, sameEvaluated, keepAll, evaluated}
+use Rattle.search.specs.Keep.{Kept, nothing, Evaluated, scoreOf, sameAssignment, sameEvaluated, keepAll, evaluated}
 use Rattle.search.specs.Search.{walked, keptOf, searchedAs, searchFrom, search}
+use Rattle.search.proofs.Same.{assignments-decide}
 use Rattle.scoring.proofs.Order.{is-T}
 use Rattle.scoring.proofs.Rule.{Finite, champion, champion-one, incumbent, tied-from}
 use Rattle.certificate.specs.Terms.{FiniteScore, evaluations, handedOver, keptBy, assignmentOf}
+
+-- two are the same where their assignments are
+pub same-told : (d e : Evaluated) → sameEvaluated d e ≡ true → d .assignment ≡ e .assignment
+same-told d e = assignments-decide .is (d .assignment) (e .assignment)
+
+pub same-tells : (d e : Evaluated) → d .assignment ≡ e .assignment → sameEvaluated d e ≡ true
+same-tells d e q = ap (sameAssignment (d .assignment)) (sym q) ∙ assignments-decide .self (d .assignment)
 
 -- each evaluation has a finite score
 finite-scores : (out : List Assignment) (xs : List Float) → Matched FiniteScore out (take (length out) xs) → Each (λ e. finite (e .score) ≡ true) (evaluated out xs)
@@ -53,15 +61,6 @@ module _ (s : List ℕ) (b : SearchBudget) (xs : List Float) where
         ∙ ap (λ (t : List Evaluated). keepAll scoreOf sameEvaluated (b .«max_optima») (b .«tie_width») nothing t .best) e
         ∙ incumbent scoreOf sameEvaluated (b .«max_optima») (b .«tie_width») a l,
   )
-
-  -- and with a tied one
-  pub tied-best : 0 < length (keptBy s b xs .tied) → (i : Evaluated) × (keptBy s b xs .best ≡ i ∷ [])
-  unfolding keepAll
-  tied-best h =
-      some-best (evaluations s b xs) refl (λ e.
-      let z : length (keptBy s b xs .tied) ≡ 0
-      = ap (λ (k : Kept Evaluated). length (k .tied)) kept-is ∙ ap (λ (t : List Evaluated). length (keepAll scoreOf sameEvaluated (b .«max_optima») (b .«tie_width») nothing t .tied)) e in
-      omega arith)
 
   -- the incumbent was evaluated too
   pub best-evaluated : (i : Evaluated) → keptBy s b xs .best ≡ i ∷ [] → List·Memᴰ i (evaluations s b xs)

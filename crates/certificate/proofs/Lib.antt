@@ -8,5 +8,6 @@ pub mod Scores
 pub mod Certificate
 pub mod Told
 pub mod Larger
+pub mod LargerListing
 pub mod OnE
 pub mod LargerOnE

@@ -23,7 +23,7 @@ use Rattle.certificate.proofs.Unrefused.{unrefused as search-unrefused}
 use Rattle.certificate.proofs.Reply.{reply-of}
 
 -- an answer whose refusal is 0 is that of its walk
-listed : (s : List ℕ) (b : SearchBudget) (from : ℕ) (rooms : ListRooms) → listAnswer s b from rooms .refusal ≡ 0
+pub listed : (s : List ℕ) (b : SearchBudget) (from : ℕ) (rooms : ListRooms) → listAnswer s b from rooms .refusal ≡ 0
     → listAnswer s b from rooms ≡ listReplyOf (walk (panelOf s) b) (written from (length (rooms .out)) (walk (panelOf s) b .walk .out))
 unfolding listAnswer
 listed s b from rooms = go (eqb (listRefusal s b rooms .number) 0) refl
@@ -38,7 +38,7 @@ listed s b from rooms = go (eqb (listRefusal s b rooms .number) 0) refl
     go true e h = refl
     go false e h = absurd (eqb-false (r .number) 0 e h)
 
-unrefused : (s : List ℕ) (b : SearchBudget) (from : ℕ) (rooms : ListRooms) → listAnswer s b from rooms .refusal ≡ 0 → listRefusal s b rooms .number ≡ 0
+pub unrefused : (s : List ℕ) (b : SearchBudget) (from : ℕ) (rooms : ListRooms) → listAnswer s b from rooms .refusal ≡ 0 → listRefusal s b rooms .number ≡ 0
 unfolding listAnswer listReplyOf
 unrefused s b from rooms = go (eqb (listRefusal s b rooms .number) 0) refl
   where

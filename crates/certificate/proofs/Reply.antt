@@ -28,7 +28,7 @@ use Rattle.certificate.specs.Terms.{FiniteScore, Admitted, Exhausted, ke
 
 -- ---- scores
 
-none-refused : (n : ℕ) (out : List Assignment) (xs : List Float) → Matched FiniteScore out (take (length out) xs) → scoresRefusal n out xs ≡ noRefusal
+pub none-refused : (n : ℕ) (out : List Assignment) (xs : List Float) → Matched FiniteScore out (take (length out) xs) → scoresRefusal n out xs ≡ noRefusal
 unfolding scoresRefusal
 none-refused n [] xs h = refl
 none-refused n (a ∷ out) [] h = absurd h

@@ -16,10 +16,9 @@ use Rattle.evaluate.specs.Segments.{Assignment}
 use Rattle.evaluate.specs.Legal.{Legal}
 use Rattle.search.specs.declared.SearchBudget.{SearchBudget}
 use Rattle.search.specs.Run.{nativesOf}
-use Rattle.search.specs.Keep.{Kept, nothing, Evaluated, scoreOf, sameAssignment, sameEvaluated, tiedTo, tiesTo, keepAll}
+use Rattle.search.specs.Keep.{Kept, nothing, Evaluated, scoreOf, sameEvaluated, tiedTo, tiesTo, keepAll}
 use Rattle.search.specs.Answers.{Rooms, searchAnswer}
 use Rattle.evaluate.proofs.Lists.{keep-only, keep-in, pairs-keep, pairs-through, each-mem, mem-map}
-use Rattle.search.proofs.Same.{assignments-decide}
 use Rattle.enumeration.proofs.Suffice.{natives-length}
 use Rattle.scoring.proofs.Order.{is-T, lt→not-le}
 use Rattle.scoring.proofs.Rule.{Finite, champion, champion-least, champion-one, incumbent, scoring, firsts}
@@ -27,7 +26,7 @@ use Rattle.scoring.proofs.Firsts.{firsts-only, firsts-all, firsts-once, firsts-
 use Rattle.certificate.specs.Terms.{Admitted, Exhausted, Scores, evaluations, handedOver, keptBy, NativesThenLegal, Least, Ties, NoTwo, Earlier, assignmentOf}
 use Rattle.certificate.specs.Demand3.{AllScored, IncumbentIsLeast, TiedAre, TiedAreAll}
 use Rattle.certificate.proofs.Reply.{admitted-passes, certified-whole}
-use Rattle.certificate.proofs.Evaluated.{kept-is, made, finites, handed-of}
+use Rattle.certificate.proofs.Evaluated.{same-told, same-tells, kept-is, made, finites, handed-of}
 use Rattle.certificate.proofs.Walk.{all-evaluated-once, handed-legal}
 
 -- ---- tests and truths
@@ -42,13 +41,7 @@ not-lower x y h = go (Ieee.lt x y) refl (Ieee.le y x) refl h
 
 -- ---- evaluations
 
-same-told : (d e : Evaluated) → sameEvaluated d e ≡ true → d .assignment ≡ e .assignment
-same-told d e = assignments-decide .is (d .assignment) (e .assignment)
-
-same-tells : (d e : Evaluated) → d .assignment ≡ e .assignment → sameEvaluated d e ≡ true
-same-tells d e q = ap (sameAssignment (d .assignment)) (sym q) ∙ assignments-decide .self (d .assignment)
-
-map-append : {A B : Type 0} (f : A → B) (l m : List A) → map f (l ++ m) ≡ map f l ++ map f m
+pub map-append : {A B : Type 0} (f : A → B) (l m : List A) → map f (l ++ m) ≡ map f l ++ map f m
 map-append f [] m = refl
 map-append f (a ∷ l) m = ap (λ x. f a ∷ x) (map-append f l m)
 

@@ -54,6 +54,10 @@ evaluations s b xs = evaluated (handedOver s b) xs
 abbrev pub Scores : List ℕ → SearchBudget → List Float → Assignment → Float → Type 0
 Scores s b xs a x = List·Memᴰ (record { assignment = a; score = x }) (evaluations s b xs)
 
+-- "equal scores for equal assignments"
+abbrev pub Agreed : List ℕ → SearchBudget → List Float → Type 0
+Agreed s b xs = (a : Assignment) (x y : Float) → Scores s b xs a x → Scores s b xs a y → x ≡ y
+
 -- "an accepted panel, budget and rooms, at least one family, a finite score for every evaluation and equal scores for equal assignments"
 pub record Admitted (s : List ℕ) (b : SearchBudget) (xs : List Float) (rooms : Rooms) : Type 0 where
   pub panel : PanelAccepted s
@@ -61,7 +65,7 @@ pub record Admitted (s : List ℕ) (b : SearchBudget) (xs : List Float) (rooms :
   pub roomy : roomsRefusal (panelOf s) b (length (rooms .frames)) (length (rooms .kept)) (length (rooms .scores)) ≡ 0
   pub families : 0 < length (panelOf s .families)
   pub scored : Matched FiniteScore (handedOver s b) (take (length (handedOver s b)) xs)
-  pub agreed : (a : Assignment) (x y : Float) → Scores s b xs a x → Scores s b xs a y → x ≡ y
+  pub agreed : Agreed s b xs
 
 -- ---- what is told
 

@@ -13,5 +13,4 @@ pub mod Suffice
 pub mod Tally
 pub mod Room
 pub mod Limits
-pub mod Behind
 pub mod Resumed

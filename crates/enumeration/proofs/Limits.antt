@@ -10,10 +10,9 @@ use borrow.Author.Tests.{leb-false, lt-leb}
 use Rattle.ground.specs.Lists.{pick}
 use Rattle.image.specs.Panel.{Panel, pathsAt}
 use Rattle.search.specs.declared.SearchBudget.{SearchBudget}
-use Rattle.search.specs.Budget.{Larger}
+use Rattle.search.specs.Budget.{WalkNoSmaller}
 use Rattle.search.specs.Walk.{pass, down, give, Frame, Act, leave, doing, enter, unitOf, takesMember}
-use Rattle.search.specs.Run.{Walk, Walked, Ending, exhausted, onWork, onEvaluation, onFrontier, Phase, going, ended, Limits, limitsOf, root, stacked, begin, spend, handed, doneWith, afterAct, onTop, unit, units, stopped, resumed}
-use Rattle.search.specs.Resume.{waiting, takenUp}
+use Rattle.search.specs.Run.{Walk, Walked, Ending, exhausted, onWork, onEvaluation, onFrontier, Phase, going, ended, Limits, limitsOf, root, stacked, begin, spend, handed, doneWith, afterAct, onTop, unit, units, stopped, waiting, resumed, takenUp}
 use Rattle.enumeration.proofs.Whole.{ended-stays}
 use Rattle.enumeration.proofs.Budgets.{walkIn, Short, short-ends}
 
@@ -22,7 +21,7 @@ pub record Wider (l m : Limits) : Type 0 where
   pub enough : (n : ℕ) → l .enough n ≡ false → m .enough n ≡ false
   pub full : (n : ℕ) → l .full n ≡ false → m .full n ≡ false
 
-pub larger-wider : (b c : SearchBudget) → Larger b c → Wider (limitsOf b) (limitsOf c)
+pub larger-wider : (b c : SearchBudget) → WalkNoSmaller b c → Wider (limitsOf b) (limitsOf c)
 larger-wider b c more =
     record {
       enough = λ n e. let h = leb-false (b .«max_evaluations») n e in let k = more .evaluations in lt-leb (c .«max_evaluations») n (omega arith);

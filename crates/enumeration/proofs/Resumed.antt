@@ -12,15 +12,14 @@ use Rattle.ground.specs.Lists.{pick}
 use Rattle.image.specs.Panel.{Panel, pathsAt}
 use Rattle.evaluate.specs.Segments.{Assignment, nativeOf}
 use Rattle.search.specs.declared.SearchBudget.{SearchBudget}
-use Rattle.search.specs.Budget.{Larger}
+use Rattle.search.specs.Budget.{WalkNoSmaller}
 use Rattle.search.specs.Walk.{pass, down, give, Place, Frame, Act, leave, doing, enter, unitOf, takesMember}
-use Rattle.search.specs.Run.{Walk, Walked, Ending, exhausted, onWork, onEvaluation, onFrontier, Phase, going, ended, Limits, limitsOf, root, stacked, begin, spend, doneWith, afterAct, onTop, unit, units, stopped, run, seeds, seededWith, seeded, short, resumed, afterSeeding, untouched, walk}
-use Rattle.search.specs.Resume.{waiting, takenUp, onceSeeded, goOn, continued}
+use Rattle.search.specs.Run.{Walk, Walked, Ending, exhausted, onWork, onEvaluation, onFrontier, Phase, going, ended, Limits, limitsOf, root, stacked, begin, spend, doneWith, afterAct, onTop, unit, units, stopped, run, seeds, seededWith, seeded, short, waiting, resumed, takenUp, afterSeeding, walkFrom, continued, untouched, walk}
 use Rattle.enumeration.proofs.Whole.{ended-stays, units-add}
 use Rattle.enumeration.proofs.Budgets.{walkIn}
 use Rattle.enumeration.proofs.Suffice.{given, seeded-walk, short-not}
 use Rattle.enumeration.proofs.Limits.{larger-wider, begin-fine, Reached, reach}
-use Rattle.enumeration.proofs.Behind.{endBehind, bare, behind-bare, go-on-behind}
+use Rattle.search.proofs.Behind.{endBehind, bare, behind-bare, walk-behind}
 
 -- ---- the natives are counted by seeding alone
 
@@ -114,13 +113,13 @@ module _ (p : Panel) where
 
   -- a walk with all natives evaluated is gone on with as it stands
   on-whole : (c : SearchBudget) (l : List Place) (w : Walk) → w .natives ≡ length (p .families)
-      → goOn p c l w ≡ run p c (c .«max_work» - w .work) (takenUp p (limitsOf c) w l)
-  unfolding goOn onceSeeded
-  on-whole c l w q = ap (onceSeeded p c l) (seeded-none c w q) ∙ rw (eq-eqb (w .natives) (length (p .families)) q)
+      → walkFrom p c l w ≡ run p c (c .«max_work» - w .work) (takenUp p (limitsOf c) w l)
+  unfolding walkFrom afterSeeding
+  on-whole c l w q = ap (afterSeeding p c l) (seeded-none c w q) ∙ rw (eq-eqb (w .natives) (length (p .families)) q)
 
 -- ---- the law
 
-module _ (p : Panel) (b c : SearchBudget) (more : Larger b c) where
+module _ (p : Panel) (b c : SearchBudget) (more : WalkNoSmaller b c) where
   abbrev first : List Assignment
   first = given p b
 
@@ -145,9 +144,9 @@ module _ (p : Panel) (b c : SearchBudget) (more : Larger b c) where
       let y : length first + length behindFirst ≡ 0 + length (given p c) = omega arith in
       rw (x) (λ i. record { work = y i; evaluations = y i; natives = y i; donors = 0; families = 0; stack = []; out = sym all-is i })
 
-  going-on : goOn p c [] sown ≡ afterSeeding p c sownAll
-  unfolding goOn onceSeeded afterSeeding
-  going-on = ap (onceSeeded p c []) seeded-on
+  going-on : walkFrom p c [] sown ≡ afterSeeding p c [] sownAll
+  unfolding walkFrom
+  going-on = ap (afterSeeding p c []) seeded-on
 
   -- ---- the run of a walk whose seeding was whole
 
@@ -187,19 +186,19 @@ module _ (p : Panel) (b c : SearchBudget) (more : Larger b c) where
       ∙ units-natives p (limitsOf b) left-b (begin p sown)
       ∙ begin-natives p (limitsOf b) sown
 
-  whole-is : sown .natives ≡ length (p .families) → afterSeeding p b sown ≡ end-b
+  whole-is : sown .natives ≡ length (p .families) → afterSeeding p b [] sown ≡ end-b
   unfolding afterSeeding run
   whole-is q = rw (eq-eqb (sown .natives) (length (p .families)) q)
 
   -- with the seeding whole
-  whole : sown .natives ≡ length (p .families) → continued p c end-b ≡ afterSeeding p c sownAll
+  whole : sown .natives ≡ length (p .families) → continued p c end-b ≡ afterSeeding p c [] sownAll
   whole q =
       on-whole p c (waiting (end-b .ending)) (end-b .walk) (end-natives ∙ q)
       ∙ sym run-on
       ∙ sym (on-whole p c [] sown q)
       ∙ going-on
 
-  short-is : eqb (sown .natives) (length (p .families)) ≡ false → afterSeeding p b sown ≡ short b sown
+  short-is : eqb (sown .natives) (length (p .families)) ≡ false → afterSeeding p b [] sown ≡ short b sown
   unfolding afterSeeding
   short-is q = rw q
 
@@ -211,26 +210,26 @@ module _ (p : Panel) (b c : SearchBudget) (more : Larger b c) where
       go false = refl
 
   -- with the seeding stopped short
-  cut : continued p c (short b sown) ≡ afterSeeding p c sownAll
-  cut = ap (λ (l : List Place). goOn p c l sown) (short-none sown) ∙ going-on
+  cut : continued p c (short b sown) ≡ afterSeeding p c [] sownAll
+  cut = ap (λ (l : List Place). walkFrom p c l sown) (short-none sown) ∙ going-on
 
   -- For the reader: THE LAW OF LARGER BUDGETS
   pub compose : continued p c (walk p b) ≡ walk p c
   compose = ap (continued p c) (seeded-walk p b) ∙ go (eqb (sown .natives) (length (p .families))) refl ∙ sym (seeded-walk p c)
     where
-      go : (t : Bool) → eqb (sown .natives) (length (p .families)) ≡ t → continued p c (afterSeeding p b sown) ≡ afterSeeding p c sownAll
+      go : (t : Bool) → eqb (sown .natives) (length (p .families)) ≡ t → continued p c (afterSeeding p b [] sown) ≡ afterSeeding p c [] sownAll
       go true e = let q = eqb-true (sown .natives) (length (p .families)) e in ap (continued p c) (whole-is q) ∙ whole q
       go false e = ap (continued p c) (short-is e) ∙ cut
 
   -- what the smaller walk handed over stands first
   abbrev pub later : Walked
-  later = goOn p c (waiting (walk p b .ending)) (bare (walk p b .walk))
+  later = walkFrom p c (waiting (walk p b .ending)) (bare (walk p b .walk))
 
   pub split : walk p c ≡ endBehind (walk p b .walk .out) later
   split =
       sym compose
-      ∙ ap (goOn p c (waiting (walk p b .ending))) (sym (behind-bare (walk p b .walk)))
-      ∙ go-on-behind p (walk p b .walk .out) c (waiting (walk p b .ending)) (bare (walk p b .walk))
+      ∙ ap (walkFrom p c (waiting (walk p b .ending))) (sym (behind-bare (walk p b .walk)))
+      ∙ walk-behind p (walk p b .walk .out) c (waiting (walk p b .ending)) (bare (walk p b .walk))
 
   -- ---- an exhausted walk
 
@@ -239,7 +238,7 @@ module _ (p : Panel) (b c : SearchBudget) (more : Larger b c) where
     natives : r .walk .natives ≡ length (p .families)
     none : resumed p (r .walk) (r .walk .stack) ≡ ended exhausted (r .walk)
 
-  done : (r : Walked) → r ≡ afterSeeding p b sown → r .ending ≡ exhausted → Done r
+  done : (r : Walked) → r ≡ afterSeeding p b [] sown → r .ending ≡ exhausted → Done r
   done r is e = go (eqb (sown .natives) (length (p .families))) refl
     where
       go : (t : Bool) → eqb (sown .natives) (length (p .families)) ≡ t → Done r

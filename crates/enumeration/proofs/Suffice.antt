@@ -44,7 +44,7 @@ module _ (p : Panel) where
     abbrev pub given : List Assignment
     given = seeds p 0 (p .families) (b .«max_work») (b .«max_evaluations»)
 
-    pub seeded-walk : walk p b ≡ afterSeeding p b (seededWith untouched given)
+    pub seeded-walk : walk p b ≡ afterSeeding p b [] (seededWith untouched given)
     unfolding walk walkFrom seeded
     seeded-walk =
         let w : b .«max_work» - 0 ≡ b .«max_work» = omega arith in
@@ -94,7 +94,7 @@ module _ (p : Panel) (b : SearchBudget) (some : 0 < length (p .families)) (room 
   unfolding afterSeeding run outset left
   runs e =
       seeded-walk p b
-      ∙ ap (λ (l : List Assignment). afterSeeding p b (seededWith untouched l)) e
+      ∙ ap (λ (l : List Assignment). afterSeeding p b [] (seededWith untouched l)) e
       ∙ rw (eq-eqb (0 + length (nativesOf p)) (length (p .families)) (let n = natives-length p in omega arith))
 
   module _ (u : Unbudgeted p) where
@@ -152,7 +152,7 @@ module _ (p : Panel) (b : SearchBudget) (some : 0 < length (p .families)) (room 
             let k = honest p b left first (walk p b .walk) (omega arith) room ends′ in
             within few (ap (units p unlimited left) outset-is ∙ k .same) k
 
-        go : (t : Bool) → eqb (0 + length (given p b)) (length (p .families)) ≡ t → afterSeeding p b (seededWith untouched (given p b)) .ending ≡ exhausted → Whole
+        go : (t : Bool) → eqb (0 + length (given p b)) (length (p .families)) ≡ t → afterSeeding p b [] (seededWith untouched (given p b)) .ending ≡ exhausted → Whole
         go true e z =
             let n : length (given p b) ≡ length (p .families) = (let m = eqb-true (0 + length (given p b)) (length (p .families)) e in omega arith) in
             let f = seeds-whole p 0 (p .families) (b .«max_work») (b .«max_evaluations») n in

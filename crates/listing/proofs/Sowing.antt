@@ -30,8 +30,8 @@ use Rattle.listing.proofs.Rest.{spared-none, spared-on, comes-one, come
 use Rattle.listing.proofs.Running.{onward-fits, onward-slot, onward-one}
 
 pub record Sowing (s : List ℕ) (h : Header) (b : SearchBudget) (v : ℕ) (l : Listing) (xs out xs′ out′ : List ℕ) (n start : ℕ) (l′ : Listing) : Type 0 where
-  pub same : comesTo (walk (panelOf s) b) l out ≡ comesTo (walkFrom (panelOf s) b (seedWalk n)) l′ out′
-  pub onward : Onward v (walkFrom (panelOf s) b (seedWalk n)) l′ xs′ out′
+  pub same : comesTo (walk (panelOf s) b) l out ≡ comesTo (walkFrom (panelOf s) b [] (seedWalk n)) l′ out′
+  pub onward : Onward v (walkFrom (panelOf s) b [] (seedWalk n)) l′ xs′ out′
   pub few : n ≤ h .families
   pub worked : n ≤ b .«max_work»
   pub begins : start ≡ sum (take n (pathCounts h s))
@@ -56,20 +56,20 @@ module _ {s : List ℕ} {h : Header} {b : SearchBudget} {v : ℕ} {l : Listing} 
   sown-evaluation k = sown-told (λ f e. absurd (omega arith))
 
   module _ (acc : Accepted s h) (f : n < h .families) (w : n < b .«max_work») (e : n < b .«max_evaluations») where
-    native-as : walkFrom (panelOf s) b (seedWalk n) ≡ before (nativeOf (panelOf s) n) (walkFrom (panelOf s) b (seedWalk (n + 1)))
+    native-as : walkFrom (panelOf s) b [] (seedWalk n) ≡ before (nativeOf (panelOf s) n) (walkFrom (panelOf s) b [] (seedWalk (n + 1)))
     native-as = seed-one (panelOf s) b n (rw (panel-families s h (acc .counted .framed), families-length s h) f) w e
 
-    native-onward : Onward v (before (nativeOf (panelOf s) n) (walkFrom (panelOf s) b (seedWalk (n + 1)))) l′ xs′ out′
+    native-onward : Onward v (before (nativeOf (panelOf s) n) (walkFrom (panelOf s) b [] (seedWalk (n + 1)))) l′ xs′ out′
     native-onward = subst (λ (r : Walked). Onward v r l′ xs′ out′) native-as (u .onward)
 
     pub native-fits : (g : Family) → g .number ≡ n → length (encode (nativeOf (panelOf s) (g .number))) ≤ length xs′
-    native-fits g q = rw q (onward-fits (nativeOf (panelOf s) n) (walkFrom (panelOf s) b (seedWalk (n + 1))) native-onward)
+    native-fits g q = rw q (onward-fits (nativeOf (panelOf s) n) (walkFrom (panelOf s) b [] (seedWalk (n + 1))) native-onward)
 
     pub sowing-next : {m : Listing} {zs os : List ℕ} (g : Family) → g .number ≡ n → Entered (nativeOf (panelOf s) (g .number)) xs′ out′ zs os l′ m → (next : ℕ) → next ≡ sum (take (g .number + 1) (pathCounts h s))
         → Sowing s h b v l xs out zs os (n + 1) next m
     sowing-next {m} {zs} {os} g q x next d =
         let x′ = subst (λ (k : ℕ). Entered (nativeOf (panelOf s) k) xs′ out′ zs os l′ m) q x in
-        let r = walkFrom (panelOf s) b (seedWalk (n + 1)) in
+        let r = walkFrom (panelOf s) b [] (seedWalk (n + 1)) in
         record {
           same = u .same ∙ ap (λ (r : Walked). comesTo r l′ out′) native-as ∙ comes-one (nativeOf (panelOf s) n) r (x′ .handed);
           onward = onward-one (nativeOf (panelOf s) n) r native-onward x′;
@@ -83,7 +83,7 @@ module _ {s : List ℕ} {h : Header} {b : SearchBudget} {v : ℕ} {l : Listing} 
 -- ---- a listing that ends with its seeding: no frame is on the stack
 
 pub sown-ended : {p : Panel} {h : Header} {b : SearchBudget} {v : ℕ} {l : Listing} {xs out xs′ out′ : List ℕ} {r : Seeded} (fs : List ℕ) (e : Stop) (t : Tally) (start : ℕ) (clear : Bool) → Sown p h b v l xs out xs′ out′ r
-    → usedBy e 0 ≡ 0 → pendingWords (endingOf e (frameOf fs 0 .place)) ≡ [] → walkFrom p b (seedWalk (r .natives)) ≡ record { ending = endingOf e (frameOf fs 0 .place); walk = walkOf t (stackOf fs 0) }
+    → usedBy e 0 ≡ 0 → pendingWords (endingOf e (frameOf fs 0 .place)) ≡ [] → walkFrom p b [] (seedWalk (r .natives)) ≡ record { ending = endingOf e (frameOf fs 0 .place); walk = walkOf t (stackOf fs 0) }
     → Ended b v (walk p b) l fs xs out fs xs′ out′ (record { stop = e; at = record { tally = t; depth = 0; start = start; clear = clear }; listing = r .listing })
 unfolding stackWords
 sown-ended {p} {h} {b} {v} {l} {xs} {out} {xs′} {out′} {r} fs e t start clear w f none q =

@@ -97,7 +97,7 @@ module _ {s : List ℕ} {h : Header} {b : SearchBudget} {v : ℕ} {l : Listing} 
     root-kept : Room b fs gs
     root-kept = begun-kept s h b fs t 0 acc first begins (room .some) (room .small) (room .room) worked taken gs put-first
 
-    root-to-go : walkFrom (panelOf s) b (seedWalk (r .natives)) ≡ toGo (panelOf s) b t gs 1
+    root-to-go : walkFrom (panelOf s) b [] (seedWalk (r .natives)) ≡ toGo (panelOf s) b t gs 1
     root-to-go =
         let k = w .few in
         seed-all (panelOf s) b (r .natives) (let c = counts in omega arith) (omega arith)

@@ -122,8 +122,8 @@ pub record Ended (b : SearchBudget) (v : ℕ) (w : Walked) (l : Listing) (fs xs 
 
 -- seeding ended with so many natives evaluated, and no other is to come
 pub record Sown (p : Panel) (h : Header) (b : SearchBudget) (v : ℕ) (l : Listing) (xs out xs′ out′ : List ℕ) (r : Seeded) : Type 0 where
-  pub same : comesTo (walk p b) l out ≡ comesTo (walkFrom p b (seedWalk (r .natives))) (r .listing) out′
-  pub onward : Onward v (walkFrom p b (seedWalk (r .natives))) (r .listing) xs′ out′
+  pub same : comesTo (walk p b) l out ≡ comesTo (walkFrom p b [] (seedWalk (r .natives))) (r .listing) out′
+  pub onward : Onward v (walkFrom p b [] (seedWalk (r .natives))) (r .listing) xs′ out′
   pub few : r .natives ≤ h .families
   pub over : r .natives < h .families → r .natives < b .«max_evaluations» → b .«max_work» ≤ r .natives
   pub worked : r .natives ≤ b .«max_work»

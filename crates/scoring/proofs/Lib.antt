@@ -4,3 +4,4 @@ pub mod Rule
 pub mod Firsts
 pub mod Width
 pub mod Longer
+pub mod Room

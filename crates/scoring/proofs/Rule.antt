@@ -28,7 +28,7 @@ module _ {A : Type 0} (score : A → Float) where
   champion b [] = b
   champion b (a ∷ l) = champion (lower a b) l
 
-  ties-append : (inc w : Float) (xs ys : List A) → tiesTo score inc w (xs ++ ys) ≡ tiesTo score inc w xs ++ tiesTo score inc w ys
+  pub ties-append : (inc w : Float) (xs ys : List A) → tiesTo score inc w (xs ++ ys) ≡ tiesTo score inc w xs ++ tiesTo score inc w ys
   unfolding tiesTo keep
   ties-append inc w [] ys = refl
   ties-append inc w (x ∷ xs) ys = go (tiedTo inc w (score x)) (ties-append inc w xs ys)
@@ -39,7 +39,7 @@ module _ {A : Type 0} (score : A → Float) where
       go false ih = ih
 
   -- what an incumbent dropped, a lower one drops too
-  ties-ties : (m s w : Float) → T (finite m) → T (finite s) → T (Ieee.le s m) → (xs : List A) → Each Finite xs → tiesTo score s w (tiesTo score m w xs) ≡ tiesTo score s w xs
+  pub ties-ties : (m s w : Float) → T (finite m) → T (finite s) → T (Ieee.le s m) → (xs : List A) → Each Finite xs → tiesTo score s w (tiesTo score m w xs) ≡ tiesTo score s w xs
   unfolding tiesTo keep
   ties-ties m s w pm ps l [] h = refl
   ties-ties m s w pm ps l (x ∷ xs) h =
@@ -53,14 +53,14 @@ module _ {A : Type 0} (score : A → Float) where
 
   -- ---- the champion is one of them, and no score is less
 
-  finite-lower : (a b : A) → Finite a → Finite b → Finite (lower a b)
+  pub finite-lower : (a b : A) → Finite a → Finite b → Finite (lower a b)
   finite-lower a b p q = go (Ieee.lt (score a) (score b))
     where
       go : (c : Bool) → Finite (pick c a b)
       go true = p
       go false = q
 
-  champion-below : (b : A) (l : List A) → Finite b → Each Finite l → T (Ieee.le (score (champion b l)) (score b))
+  pub champion-below : (b : A) (l : List A) → Finite b → Each Finite l → T (Ieee.le (score (champion b l)) (score b))
   unfolding champion
   champion-below b [] p h = fin-refl (score b) p
   champion-below b (a ∷ l) p h =
@@ -126,7 +126,7 @@ module _ {A : Type 0} (score : A → Float) (same : A → A → Bool) (m : ℕ) 
       go true false = refl
       go false c = refl
 
-  best-keep : (t : Kept A) (b a : A) → t .best ≡ b ∷ [] → keepOne score same m w t a .best ≡ lower score a b ∷ []
+  pub best-keep : (t : Kept A) (b a : A) → t .best ≡ b ∷ [] → keepOne score same m w t a .best ≡ lower score a b ∷ []
   unfolding keepOne lowered
   best-keep t b a e =
       best-added a (lowered score same m w a t) ∙ ap (λ (l : List A). pick (lowers score a l) (replaced score w a t) t .best) e ∙ go (Ieee.lt (score a) (score b))

@@ -1,4 +1,4 @@
--- The budgets and their bounds: refusals 11 and 12 (01, "Refusal numbers", "Panel image").
+-- The budgets and their bounds: refusals 11 and 12 (01, "Refusal numbers", "Panel image"); budgets that are no smaller (02, items 4 and 13).
 use Prim.Native.Nat.{ℕ, _≤_}
 use mathlib.Core.Bool.{Bool, false, _&&_}
 use lib.Dec.{leb, ltb}
@@ -35,8 +35,8 @@ budgetInBounds b = leb (b .«max_frontier») mostFrontier && leb (b .«max_optim
 unfoldable pub budgetRefusal : SearchBudget → ℕ
 budgetRefusal b = unless (budgetOk b) 11 (unless (budgetInBounds b) 12 0)
 
--- of the three budgets that stop a walk none is smaller in c than in b
-pub record Larger (b c : SearchBudget) : Type 0 where
+-- of the budgets that stop a walk none is smaller in c than in b
+pub record WalkNoSmaller (b c : SearchBudget) : Type 0 where
   pub work : b .«max_work» ≤ c .«max_work»
   pub evaluations : b .«max_evaluations» ≤ c .«max_evaluations»
   pub frontier : b .«max_frontier» ≤ c .«max_frontier»

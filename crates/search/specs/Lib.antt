@@ -1,7 +1,6 @@
 pub mod Budget
 pub mod Walk
 pub mod Run
-pub mod Resume
 pub mod Counters
 pub mod Keep
 pub mod Search

@@ -130,20 +130,37 @@ seeded p b w = seededWith w (seeds p (w .natives) (drop (w .natives) (p .familie
 
 -- ---- the walk from any state on
 
--- the stack is gone on with, or the next family is begun
+-- the child that is pending: none, or one where the frontier stopped the walk
+abbrev pub waiting : Ending → List Place
+waiting exhausted = []
+waiting onWork = []
+waiting onEvaluation = []
+waiting (onFrontier a) = a ∷ []
+
+-- the stack is continued, or the next family is begun
 abbrev pub resumed : Panel → Walk → List Frame → Phase
 resumed p w [] = begin p w
 resumed p w (f ∷ rest) = going w
+
+-- a pending child is entered if there is room for it now, at no cost; else it is pending still
+abbrev pub takenUp : Panel → Limits → Walk → List Place → Phase
+takenUp p lim w [] = resumed p w (w .stack)
+takenUp p lim w (a ∷ l) = pick (lim .full (length (w .stack))) (ended (onFrontier a) w) (going (stacked w (enter p a ∷ w .stack)))
 
 -- "Stopped short, the status is evaluation if natives are at max_evaluations, else work."
 abbrev pub short : SearchBudget → Walk → Walked
 short b w = record { ending = pick (leb (b .«max_evaluations») (w .natives)) onEvaluation onWork; walk = w }
 
-unfoldable pub afterSeeding : Panel → SearchBudget → Walk → Walked
-afterSeeding p b w = pick (eqb (w .natives) (length (p .families))) (run p b (b .«max_work» - w .work) (resumed p w (w .stack))) (short b w)
+unfoldable pub afterSeeding : Panel → SearchBudget → List Place → Walk → Walked
+afterSeeding p b l w = pick (eqb (w .natives) (length (p .families))) (run p b (b .«max_work» - w .work) (takenUp p (limitsOf b) w l)) (short b w)
 
-unfoldable pub walkFrom : Panel → SearchBudget → Walk → Walked
-walkFrom p b w = afterSeeding p b (seeded p b w)
+-- with the pending child, if there is one
+unfoldable pub walkFrom : Panel → SearchBudget → List Place → Walk → Walked
+walkFrom p b l w = afterSeeding p b l (seeded p b w)
+
+-- a walk that stopped, under these budgets
+abbrev pub continued : Panel → SearchBudget → Walked → Walked
+continued p b r = walkFrom p b (waiting (r .ending)) (r .walk)
 
 -- nothing done yet
 abbrev pub untouched : Walk
@@ -151,7 +168,7 @@ untouched = record { work = 0; evaluations = 0; natives = 0; donors = 0; familie
 
 -- the first run
 unfoldable pub walk : Panel → SearchBudget → Walked
-walk p b = walkFrom p b untouched
+walk p b = walkFrom p b [] untouched
 
 -- ---- the unbudgeted walk
 

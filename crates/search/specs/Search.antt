@@ -37,7 +37,7 @@ walkOf st =
     }
 
 unfoldable pub walked : Panel → SearchBudget → State → Walked
-walked p b st = walkFrom p b (walkOf st)
+walked p b st = walkFrom p b [] (walkOf st)
 
 -- the scores that are still to come
 abbrev pub scoresToCome : State → List Float → List Float

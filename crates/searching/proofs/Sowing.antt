@@ -38,7 +38,7 @@ use Rattle.walks.proofs.Laws.{begun-walking, begun-to-go, begun-kept}
 use Rattle.searching.proofs.Running.{score-listed, onward-refused, onward-one, room-on}
 
 pub record Sowing (s : List ℕ) (h : Header) (b : SearchBudget) (v : ℕ) (xs : List Float) (ks : List ℕ) (ss : List Float) (ks′ : List ℕ) (ss′ : List Float) (n start : ℕ) (account : Account) : Type 0 where
-  pub onward : Onward (panelOf s) b v xs (walkFrom (panelOf s) b (seedWalk n)) account ks′ ss′
+  pub onward : Onward (panelOf s) b v xs (walkFrom (panelOf s) b [] (seedWalk n)) account ks′ ss′
   pub left : Left v (b .«max_optima») ks ss ks′ ss′
   pub few : n ≤ h .families
   pub worked : n ≤ b .«max_work»
@@ -67,10 +67,10 @@ module _ {s : List ℕ} {h : Header} {b : SearchBudget} {v : ℕ} {xs : List Flo
   native-listed k e z = let y : k ≡ 0 = omega arith in score-listed xs (account .counted .evaluations) (sym e ∙ y)
 
   module _ (f : n < h .families) (w : n < b .«max_work») (e : n < b .«max_evaluations») where
-    native-as : walkFrom (panelOf s) b (seedWalk n) ≡ before (nativeOf (panelOf s) n) (walkFrom (panelOf s) b (seedWalk (n + 1)))
+    native-as : walkFrom (panelOf s) b [] (seedWalk n) ≡ before (nativeOf (panelOf s) n) (walkFrom (panelOf s) b [] (seedWalk (n + 1)))
     native-as = seed-one (panelOf s) b n (rw (panel-families s h (acc .counted .framed), families-length s h) f) w e
 
-    native-onward : Onward (panelOf s) b v xs (before (nativeOf (panelOf s) n) (walkFrom (panelOf s) b (seedWalk (n + 1)))) account ks′ ss′
+    native-onward : Onward (panelOf s) b v xs (before (nativeOf (panelOf s) n) (walkFrom (panelOf s) b [] (seedWalk (n + 1)))) account ks′ ss′
     native-onward = subst (λ (r : Walked). Onward (panelOf s) b v xs r account ks′ ss′) native-as (u .onward)
 
     pub native-fits : (g : Family) → g .number ≡ n → length (encode (nativeOf (panelOf s) (g .number))) ≤ v
@@ -80,7 +80,7 @@ module _ {s : List ℕ} {h : Header} {b : SearchBudget} {v : ℕ} {xs : List Flo
         → Sown (panelOf s) h b v xs ks ss ks′ ss′ (record { refusal = record { number = k; place = m }; natives = n; account = account })
     sown-refused k j z m i =
         record {
-          refused = λ y. ap (λ (m : ℕ). record { number = k; place = m }) i ∙ onward-refused (panelOf s) b v xs (nativeOf (panelOf s) n) (walkFrom (panelOf s) b (seedWalk (n + 1))) native-onward k j z;
+          refused = λ y. ap (λ (m : ℕ). record { number = k; place = m }) i ∙ onward-refused (panelOf s) b v xs (nativeOf (panelOf s) n) (walkFrom (panelOf s) b [] (seedWalk (n + 1))) native-onward k j z;
           onward = λ y. absurd (omega arith);
           few = u .few;
           over = λ y a c. absurd (omega arith);
@@ -95,7 +95,7 @@ module _ {s : List ℕ} {h : Header} {b : SearchBudget} {v : ℕ} {xs : List Flo
         let y : k ≡ 0 = omega arith in
         let x′ = subst (λ (m : ℕ). Entered (panelOf s) b v xs (nativeOf (panelOf s) m) account ks′ ss′ ls ts acc′) q x in
         record {
-          onward = onward-one (panelOf s) b v xs (nativeOf (panelOf s) n) (walkFrom (panelOf s) b (seedWalk (n + 1))) native-onward (sym j ∙ y) x′;
+          onward = onward-one (panelOf s) b v xs (nativeOf (panelOf s) n) (walkFrom (panelOf s) b [] (seedWalk (n + 1))) native-onward (sym j ∙ y) x′;
           left = left-on (u .left) (x .left (u .onward .kept) (u .onward .keeps));
           few = omega arith;
           worked = omega arith;
@@ -105,7 +105,7 @@ module _ {s : List ℕ} {h : Header} {b : SearchBudget} {v : ℕ} {xs : List Flo
 -- ---- a search that ends with its seeding: no frame is on the stack
 
 pub sown-ended : {p : Panel} {h : Header} {b : SearchBudget} {v : ℕ} {xs : List Float} {ks : List ℕ} {ss : List Float} {ks′ : List ℕ} {ss′ : List Float} {r : Seeded} (fs : List ℕ) (e : Stop) (t : Tally) (start : ℕ) (clear : Bool)
-    → Sown p h b v xs ks ss ks′ ss′ r → r .refusal .number ≡ 0 → usedBy e 0 ≡ 0 → pendingWords (endingOf e (frameOf fs 0 .place)) ≡ [] → walkFrom p b (seedWalk (r .natives)) ≡ record { ending = endingOf e (frameOf fs 0 .place); walk = walkOf t (stackOf fs 0) }
+    → Sown p h b v xs ks ss ks′ ss′ r → r .refusal .number ≡ 0 → usedBy e 0 ≡ 0 → pendingWords (endingOf e (frameOf fs 0 .place)) ≡ [] → walkFrom p b [] (seedWalk (r .natives)) ≡ record { ending = endingOf e (frameOf fs 0 .place); walk = walkOf t (stackOf fs 0) }
     → Ended p b v xs fs ks ss fs ks′ ss′ (record { refusal = record { number = 0; place = 0 }; stop = e; at = record { tally = t; depth = 0; start = start; clear = clear }; account = r .account })
 unfolding stackWords
 sown-ended {p} {h} {b} {v} {xs} {ks} {ss} {ks′} {ss′} {r} fs e t start clear w z f none q =
@@ -183,7 +183,7 @@ module _ {s : List ℕ} {h : Header} {b : SearchBudget} {v : ℕ} {xs : List Flo
       pub first-walking : (at : Standing) → at ≡ standingWith (q .natives) 1 → Walking s h b ws (at .tally) (at .depth) (at .start) (at .clear)
       first-walking at e = rw e (begun-walking s h b fs (seedTally (q .natives)) 0 acc first-left first-begins (f .some) (f .few) (f .room) first-worked (omega arith) ws ew)
 
-      first-same : walkFrom (panelOf s) b (seedWalk (q .natives)) ≡ toGo (panelOf s) b (seedTally (q .natives)) ws 1
+      first-same : walkFrom (panelOf s) b [] (seedWalk (q .natives)) ≡ toGo (panelOf s) b (seedTally (q .natives)) ws 1
       first-same =
           let few = w .few in
           let same : q .natives ≡ length (panelOf s .families) = rw families-counted (omega arith) in

@@ -178,7 +178,7 @@ standingWith n d = record { tally = seedTally n; depth = d; start = 0; clear = t
 -- seeding ended: refused, or with so many natives evaluated, and no other is to come
 pub record Sown (p : Panel) (h : Header) (b : SearchBudget) (v : ℕ) (xs : List Float) (ks : List ℕ) (ss : List Float) (ks′ : List ℕ) (ss′ : List Float) (r : Seeded) : Type 0 where
   pub refused : 0 < r .refusal .number → r .refusal ≡ evaluationRefusal p b xs fresh
-  pub onward : r .refusal .number ≡ 0 → Onward p b v xs (walkFrom p b (seedWalk (r .natives))) (r .account) ks′ ss′
+  pub onward : r .refusal .number ≡ 0 → Onward p b v xs (walkFrom p b [] (seedWalk (r .natives))) (r .account) ks′ ss′
   pub few : r .natives ≤ h .families
   pub over : r .refusal .number ≡ 0 → r .natives < h .families → r .natives < b .«max_evaluations» → b .«max_work» ≤ r .natives
   pub worked : r .natives ≤ b .«max_work»

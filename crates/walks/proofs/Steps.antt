@@ -2,18 +2,16 @@
 use Prim.Native.Nat.{ℕ, zero, suc, _+_, _-_, _≤_, _<_}
 use native.Mathlib.Omega.{arith}
 use mathlib.Core.Path.{_≡_, refl, ap, _∙_}
-use mathlib.Core.Bool.{Bool, true, false}
 use mathlib.Core.List.{List, [], _∷_}
-use lib.Dec.{ltb}
-use lib.ListN.{length}
 use borrow.Author.Tests.{le-leb, lt-leb}
 use Rattle.ground.specs.Lists.{pick}
 use Rattle.image.specs.Panel.{Panel, pathsAt}
 use Rattle.evaluate.specs.Segments.{Assignment}
 use Rattle.search.specs.declared.SearchBudget.{SearchBudget}
 use Rattle.search.specs.declared.Tally.{Tally}
-use Rattle.search.specs.Walk.{Frame, pass, down, give, Act, leave, doing, enter, unitOf, takesMember}
-use Rattle.search.specs.Run.{Walk, Phase, going, ended, Ending, onWork, onEvaluation, onFrontier, Limits, limitsOf, begin, spend, doneWith, left, afterAct, onTop, unit, units, stopped, run}
+use Rattle.search.specs.Walk.{Frame, Act, unitOf, takesMember}
+use Rattle.search.specs.Run.{Walk, going, ended, Ending, onWork, onEvaluation, Limits, limitsOf, afterAct, onTop, unit, units, stopped, run}
+use Rattle.search.proofs.Behind.{run-behind}
 use Rattle.frames.specs.Inner.{frameOf, stackOf}
 use Rattle.frames.proofs.Laws.{stack-top}
 use Rattle.walks.specs.Inner.{walkOf, gone, toGo, handing, before}
@@ -39,48 +37,8 @@ run-ended p b n e w = ap stopped (units-ended p (limitsOf b) n e w)
 
 -- ---- what was handed over before goes first in what is handed over
 
-abbrev after : Assignment → Phase → Phase
-after a (going w) = going (handing a w)
-after a (ended e w) = ended e (handing a w)
-
-begin-after : (p : Panel) (a : Assignment) (w : Walk) (t : Bool) → ltb (w .families) (length (p .families)) ≡ t → begin p (handing a w) ≡ after a (begin p w)
-begin-after p a w true e = rw e
-begin-after p a w false e = rw e
-
-left-after : (p : Panel) (a : Assignment) (w : Walk) (d : ℕ) (rest : List Frame) → left p (handing a w) d rest ≡ after a (left p w d rest)
-left-after p a w d [] = begin-after p a (doneWith (spend w d [])) (ltb (suc (w .families)) (length (p .families))) refl
-left-after p a w d (g ∷ rest) = refl
-
-full-after : (a : Assignment) (t : Bool) (x y : Phase) → pick t (after a x) (after a y) ≡ after a (pick t x y)
-full-after a true x y = refl
-full-after a false x y = refl
-
-act-after : (p : Panel) (lim : Limits) (a : Assignment) (w : Walk) (d : ℕ) (rest : List Frame) (x : Act) → afterAct p lim (handing a w) d rest x ≡ after a (afterAct p lim w d rest x)
-act-after p lim a w d rest leave = left-after p a w d rest
-act-after p lim a w d rest (doing pass g) = refl
-act-after p lim a w d rest (doing (down c) g) = full-after a (lim .full (suc (length rest))) (ended (onFrontier c) (spend w d (g ∷ rest))) (going (spend w d (enter p c ∷ g ∷ rest)))
-act-after p lim a w d rest (doing (give rs) g) = refl
-
-top-after : (p : Panel) (lim : Limits) (a : Assignment) (w : Walk) (stack : List Frame) → onTop p lim (handing a w) stack ≡ after a (onTop p lim w stack)
-top-after p lim a w [] = begin-after p a w (ltb (w .families) (length (p .families))) refl
-top-after p lim a w (f ∷ rest) = act-after p lim a w (pick (takesMember f) 1 0) rest (unitOf p (pathsAt p (w .families)) f)
-
-unit-after : (p : Panel) (lim : Limits) (a : Assignment) (w : Walk) → unit p lim (handing a w) ≡ after a (unit p lim w)
-unit-after p lim a w = ap (λ (x : Phase). pick (lim .enough (w .evaluations)) (ended onEvaluation (handing a w)) x) (top-after p lim a w (w .stack)) ∙ full-after a (lim .enough (w .evaluations)) (ended onEvaluation w) (onTop p lim w (w .stack))
-
-units-after : (p : Panel) (lim : Limits) (a : Assignment) (n : ℕ) (ph : Phase) → units p lim n (after a ph) ≡ after a (units p lim n ph)
-unfolding units
-units-after p lim a zero ph = refl
-units-after p lim a (suc n) (going w) = ap (units p lim n) (unit-after p lim a w) ∙ units-after p lim a n (unit p lim w)
-units-after p lim a (suc n) (ended e w) = refl
-
-stopped-after : (a : Assignment) (ph : Phase) → stopped (after a ph) ≡ before a (stopped ph)
-stopped-after a (going w) = refl
-stopped-after a (ended e w) = refl
-
 pub run-after : (p : Panel) (b : SearchBudget) (a : Assignment) (n : ℕ) (w : Walk) → run p b n (going (handing a w)) ≡ before a (run p b n (going w))
-unfolding run
-run-after p b a n w = ap stopped (units-after p (limitsOf b) a n (going w)) ∙ stopped-after a (units p (limitsOf b) n (going w))
+run-after p b a n w = run-behind p (a ∷ []) b n (going w)
 
 -- ---- a unit on the room's stack
 

@@ -8,10 +8,9 @@ use lib.ListN.{length, drop}
 use Rattle.ground.specs.Lists.{pick}
 use Rattle.image.specs.Panel.{Panel, pathsAt}
 use Rattle.evaluate.specs.Segments.{Assignment}
 use Rattle.search.specs.declared.SearchBudget.{SearchBudget}
 use Rattle.search.specs.Walk.{pass, down, give, Place, Frame, Act, leave, doing, enter, unitOf, takesMember}
-use Rattle.search.specs.Run.{Walk, Walked, exhausted, onEvaluation, onFrontier, Phase, going, ended, Limits, limitsOf, root, stacked, begin, spend, doneWith, afterAct, onTop, unit, units, stopped, run, seeds, seededWith, seeded, short, resumed}
-use Rattle.search.specs.Resume.{takenUp, onceSeeded, goOn}
+use Rattle.search.specs.Run.{Walk, Walked, exhausted, onEvaluation, onFrontier, Phase, going, ended, Limits, limitsOf, root, stacked, begin, spend, doneWith, afterAct, onTop, unit, units, stopped, run, seeds, seededWith, seeded, short, resumed, takenUp, afterSeeding, walkFrom}
 
 -- the same walk, with these handed over before
 abbrev pub behind : List Assignment → Walk → Walk
@@ -59,7 +58,7 @@ module _ (p : Panel) (l : List Assignment) where
     unit-behind : (w : Walk) → unit p lim (behind l w) ≡ phaseBehind l (unit p lim w)
     unit-behind w = ap (pick (lim .enough (w .evaluations)) (ended onEvaluation (behind l w))) (top-behind w (w .stack)) ∙ pick-behind l (lim .enough (w .evaluations)) (ended onEvaluation w) (onTop p lim w (w .stack))
 
-    pub units-behind : (n : ℕ) (s : Phase) → units p lim n (phaseBehind l s) ≡ phaseBehind l (units p lim n s)
+    units-behind : (n : ℕ) (s : Phase) → units p lim n (phaseBehind l s) ≡ phaseBehind l (units p lim n s)
     unfolding units
     units-behind zero s = refl
     units-behind (suc n) (ended e w) = refl
@@ -78,13 +77,13 @@ module _ (p : Panel) (l : List Assignment) where
   pick-ends false a c = refl
 
   module _ (b : SearchBudget) where
-    run-behind : (n : ℕ) (s : Phase) → run p b n (phaseBehind l s) ≡ endBehind l (run p b n s)
+    pub run-behind : (n : ℕ) (s : Phase) → run p b n (phaseBehind l s) ≡ endBehind l (run p b n s)
     unfolding run
     run-behind n s = ap stopped (units-behind (limitsOf b) n s) ∙ stopped-behind (units p (limitsOf b) n s)
 
-    once-behind : (c : List Place) (w : Walk) → onceSeeded p b c (behind l w) ≡ endBehind l (onceSeeded p b c w)
-    unfolding onceSeeded
-    once-behind c w =
+    pub seeding-behind : (c : List Place) (w : Walk) → afterSeeding p b c (behind l w) ≡ endBehind l (afterSeeding p b c w)
+    unfolding afterSeeding
+    seeding-behind c w =
         ap (λ (r : Walked). pick (eqb (w .natives) (length (p .families))) r (short b (behind l w)))
         (ap (run p b (b .«max_work» - w .work)) (taken-behind (limitsOf b) w c) ∙ run-behind (b .«max_work» - w .work) (takenUp p (limitsOf b) w c))
         ∙ pick-ends (eqb (w .natives) (length (p .families))) (run p b (b .«max_work» - w .work) (takenUp p (limitsOf b) w c)) (short b w)
@@ -96,6 +95,6 @@ module _ (p : Panel) (l : List Assignment) where
         go : (o : List Assignment) → seededWith (behind l w) o ≡ behind l (seededWith w o)
         go o = λ i. record { work = w .work + length o; evaluations = w .evaluations + length o; natives = w .natives + length o; donors = w .donors; families = w .families; stack = w .stack; out = append-assoc l (w .out) o i }
 
-    pub go-on-behind : (c : List Place) (w : Walk) → goOn p b c (behind l w) ≡ endBehind l (goOn p b c w)
-    unfolding goOn
-    go-on-behind c w = ap (onceSeeded p b c) (seeded-behind w) ∙ once-behind c (seeded p b w)
+    pub walk-behind : (c : List Place) (w : Walk) → walkFrom p b c (behind l w) ≡ endBehind l (walkFrom p b c w)
+    unfolding walkFrom
+    walk-behind c w = ap (afterSeeding p b c) (seeded-behind w) ∙ seeding-behind c (seeded p b w)
