@@ -1,3 +1,3 @@
 pub mod Asked
-pub mod OnE
 pub mod Raised
+pub mod OnE

@@ -45,7 +45,7 @@ use Rattle.certificate.specs.Told.{Told}
 use Rattle.certificate.proofs.Certificate.{demand3}
 use Rattle.certificate.proofs.Told.{rooms-tell}
 
-abbrev nativeE : Assignment
+abbrev pub nativeE : Assignment
 nativeE = record { family = 0; routes = (fwd 0 0 10 ∷ []) ∷ [] }
 
 abbrev mosaicE : Assignment

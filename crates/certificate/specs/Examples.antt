@@ -88,6 +88,8 @@ pub record Answers : Type 0 where
   pub left : SearchBudget → Rooms
   pub kept : SearchBudget → Kept Evaluated
   pub handed : SearchBudget → List Assignment
+  -- what it keeps with other scores
+  pub keeps : List Float → SearchBudget → Kept Evaluated
 
 unfoldable pub on : List ℕ → Answers
 unfolding little number each split sum all any count keep after rising numbersFrom distinct portOf wordOrder portOrder headerOf sound2 sound3 opened entryOf entries counts pathCounts paths lanePorts hub portsOf startOf families pathsOf zipLanes panelBy panelOf countOk names noTwice sound5a sound5b sound5 lengthOk sound4 letter soundPlace soundRecord soundRecords placeOf placeLt recordLt hubRising laneRising lanesRising samePort listed sound8 from ownRow ownRows sound6 sound7 portsChecked later checked panelE panelRefusal joining portsAt standsAt encode widthOk budgetOk budgetInBounds budgetRefusal enter terminalTask memberTask portUnit hubUnit unitOf units run seeds seeded afterSeeding walkFrom walk mostSwitches tallyOf tiesTo lowered added keepOne keepAll sameList evaluated scoresRefusal walked evaluationRefusal keptOf searchedAs searchFrom search stackWords framesLeft mostPaths slotWidth keptLeft keptScoresLeft roomsRefusal leftIn searchRefusal replyOf searchAnswer roomsAfter searchRooms bucketOf wordBelow wordUpTo Ieee.lt Ieee.le Ieee.sub Ieee.ofBits
@@ -98,6 +100,7 @@ on s =
       left = λ b. searchRooms s b scores rooms;
       kept = λ b. search (panelOf s) b scores .state .kept;
       handed = λ b. walk (panelOf s) b .walk .out;
+      keeps = λ xs b. search (panelOf s) b xs .state .kept;
     }
 
 -- the bucket of a word of two letters on panel E

@@ -26,8 +26,8 @@ use Rattle.search.specs.declared.SearchReply.{SearchReply}
 use Rattle.search.specs.declared.ListReply.{ListReply}
 use Rattle.search.specs.Budget.{widthOk, budgetOk, budgetInBounds, budgetRefusal}
 use Rattle.search.specs.Walk.{enter, terminalTask, memberTask, portUnit, hubUnit, unitOf}
-use Rattle.search.specs.Run.{Phase, going, ended, unlimited, units, run, seeds, seeded, afterSeeding, walkFrom, walk, nativesOf, outset, deepest}
-use Rattle.search.specs.Counters.{mostSwitches, tallyOf}
+use Rattle.search.specs.Run.{Walked, Phase, going, ended, unlimited, units, run, seeds, seeded, afterSeeding, walkFrom, continued, walk, nativesOf, outset, deepest}
+use Rattle.search.specs.Counters.{mostSwitches, tallyOf, stopOf, statusOf, statusNumber}
 use Rattle.search.specs.Keep.{tiesTo, lowered, added, keepOne, keepAll, sameList, evaluated, scoresRefusal}
 use Rattle.search.specs.Search.{walked, evaluationRefusal, keptOf, searchedAs, searchFrom, search}
 use Rattle.search.specs.Rooms.{stackWords, framesLeft, mostPaths, slotWidth, keptLeft, keptScoresLeft, roomsRefusal, listRoomsRefusal, leftIn}
@@ -67,6 +67,7 @@ record Calls : Type 0 where
   listRooms : SearchBudget → ℕ → ListRooms → ListRooms
   units : ℕ → Phase
   deepest : ℕ → ℕ
+  continued : SearchBudget → SearchBudget → Walked
   print : List ℕ → List ℕ
 
 unfoldable E : Calls
@@ -79,6 +80,7 @@ E =
       listRooms = listRooms panelE;
       units = λ n. units (panelOf panelE) unlimited n (outset (panelOf panelE));
       deepest = λ n. deepest (panelOf panelE) n (outset (panelOf panelE));
+      continued = λ b c. continued (panelOf panelE) c (walk (panelOf panelE) b);
       print = λ rest. printed (word 296 ++ (word 0 ++ (word 3 ++ (panelE ++ rest))));
     }
 
@@ -125,6 +127,30 @@ unscored : refusedOnE (budget 100000 1000 32 8 0) (0x4014000000000000 ∷ 0x4014
     ≡ (14 ∷ 3 ∷ []) ∷ (15 ∷ 2 ∷ []) ∷ (0 ∷ 0 ∷ []) ∷ []
 unfolding E Ieee.ofBits
 unscored = refl
+
+-- ---- a stopped walk, continued
+
+-- its status with nothing discarded, its counters, its frames and how many it handed over
+abbrev standing : Walked → List ℕ
+standing r =
+    statusNumber (statusOf (stopOf (r .ending)) false) ∷ r .walk .work ∷ r .walk .evaluations ∷ r .walk .natives ∷ r .walk .donors ∷ r .walk .families ∷ length (r .walk .stack) ∷ length (r .walk .out) ∷ []
+
+-- P9 with its pending child: with room for it as the one walk; without room pending still, at no cost. P6's last unit; P7's last units; the native
+-- alone, and then eight units
+taken-up : standing (E .continued (budget 100000 1000 2 8 0) (budget 100000 1000 32 8 0))
+    ∷ standing (E .continued (budget 100000 1000 2 8 0) (budget 100000 1000 2 8 0))
+    ∷ standing (E .continued (budget 20 1000 32 8 0) (budget 21 1000 32 8 0))
+    ∷ standing (E .continued (budget 100000 3 32 8 0) (budget 100000 4 32 8 0))
+    ∷ standing (E .continued (budget 100000 1 32 8 0) (budget 9 1000 32 8 0))
+    ∷ []
+    ≡ (1 ∷ 21 ∷ 3 ∷ 1 ∷ 6 ∷ 1 ∷ 0 ∷ 3 ∷ [])
+    ∷ (5 ∷ 8 ∷ 2 ∷ 1 ∷ 3 ∷ 0 ∷ 2 ∷ 2 ∷ [])
+    ∷ (1 ∷ 21 ∷ 3 ∷ 1 ∷ 6 ∷ 1 ∷ 0 ∷ 3 ∷ [])
+    ∷ (1 ∷ 21 ∷ 3 ∷ 1 ∷ 6 ∷ 1 ∷ 0 ∷ 3 ∷ [])
+    ∷ (3 ∷ 9 ∷ 3 ∷ 1 ∷ 3 ∷ 0 ∷ 3 ∷ 3 ∷ [])
+    ∷ []
+unfolding E Ieee.ofBits
+taken-up = refl
 
 -- ---- the rooms at exit, from rooms of fives
 
