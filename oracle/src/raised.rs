@@ -10,9 +10,9 @@ use crate::{
 
 /// Words of a listing's room, and the scores that a second run may ask for.
 const OUT: usize = 20_000;
-const SCORES: usize = 30_000;
+const SCORES: usize = 6_000;
 /// The most work, unless the first run had more.
-const WORK: u64 = 20_000;
+const WORK: u64 = 5_000;
 
 /// No budget smaller, and the same tie width: of 0.0, -0.0 is the same number.
 fn raised(rng: &mut Rng, b: &BudgetWords) -> BudgetWords {
@@ -27,9 +27,10 @@ fn raised(rng: &mut Rng, b: &BudgetWords) -> BudgetWords {
     c
 }
 
-/// A run: its budget and slot width, what the search left, and what the listing did.
+/// A run: of its budget what the tied list goes by, its slot width, and what search and listing left.
 struct Ran {
     optima: u64,
+    width: f64,
     slot: usize,
     search: Outcome,
     list: Outcome,
@@ -46,7 +47,13 @@ impl Ran {
             kept_scores: needs.scores,
         };
         let list = Call::List { budget: *b, from: 0, frames: needs.frames, slot: needs.slot, out: OUT };
-        Self { optima: b[3], slot: needs.slot, search: ask(image, &search), list: ask(image, &list) }
+        Self {
+            optima: b[3],
+            width: f64::from_bits(b[4]),
+            slot: needs.slot,
+            search: ask(image, &search),
+            list: ask(image, &list),
+        }
     }
     fn reply(&self) -> &[u64] {
         &self.search.reply
@@ -58,6 +65,9 @@ impl Ran {
     fn kept(&self, n: usize) -> (&[u64], u64) {
         let words = &self.search.rooms[1][n * self.slot..(n + 1) * self.slot];
         (&words[..judge::used_words(words)], self.search.rooms[2][n])
+    }
+    fn tied(&self) -> Vec<(&[u64], u64)> {
+        (1..=self.reply()[12] as usize).map(|n| self.kept(n)).collect()
     }
     fn listed(&self) -> &[u64] {
         &self.list.rooms[2][..self.list.reply[4] as usize]
@@ -84,10 +94,16 @@ fn broken(first: &Ran, second: &Ran) -> Option<&'static str> {
         return Some("an exhausted run does not stay so with its counters");
     }
     let same = first.optima == second.optima;
-    if q[2] == 1 || (same && first.exhausted()) {
-        let ties = || (1..=q[12] as usize).any(|n| first.kept(n) != second.kept(n));
-        if q != r || ties() {
-            return Some("a certified run, or an exhausted one of the same max_optima, is not as it was");
+    let roomy = same || q[13] == 0;
+    if roomy && first.exhausted() && (q != r || first.tied() != second.tied()) {
+        return Some("an exhausted run, with nothing discarded or the same max_optima, is not as it was");
+    }
+    if roomy && q[4] > 0 {
+        let best = f64::from_bits(second.kept(0).1);
+        let mut stay = first.tied();
+        stay.retain(|(_, score)| f64::from_bits(*score) - best <= first.width);
+        if !second.tied().starts_with(&stay) {
+            return Some("what was tied and is within the width of the new incumbent does not stay first");
         }
     }
     (same && q[13] > r[13]).then_some("a discarded mark is gone")
@@ -118,7 +134,10 @@ pub fn pairs(run: &Run) -> Result<(), ()> {
                 continue;
             }
             if let Some(what) = broken(&first, &second) {
-                println!("BROKEN by {name}, input {index} of seed {}, budgets {b:?} and {c:?}: {what}", run.seed);
+                println!(
+                    "BROKEN by {name}, input {index} of seed {}, budgets {b:?} and {c:?}: {what}",
+                    run.seed
+                );
                 return Err(());
             }
             let scored = first.reply()[4] > 0;

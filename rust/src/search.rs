@@ -7,6 +7,10 @@ use crate::{
 };
 
 /// A walk's budgets, and the width within which two scores tie.
+///
+/// A larger budget only adds: with no budget smaller and the same tie width, the walk evaluates
+/// the same assignments first, the incumbent is the same unless one scores lower, and an
+/// exhausted walk stays exhausted with the same counters. A certified sheet stays as it is.
 #[repr(C)]
 #[derive(Clone, Copy, Debug, PartialEq)]
 pub struct SearchBudget {

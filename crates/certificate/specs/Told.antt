@@ -1,4 +1,4 @@
--- What stands in the lent rooms after a search that reports exhaustion, in the words of demand 3 (01, "Room left behind").
+-- What stands in the lent rooms after a search, in the words of demand 3 (01, "Room left behind").
 use Prim.Native.Nat.{ℕ, suc, _*_, _<_}
 use mathlib.Core.Path.{_≡_}
 use mathlib.Core.List.{List, [], _∷_}

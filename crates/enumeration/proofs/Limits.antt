@@ -14,7 +14,7 @@ use Rattle.search.specs.Budget.{WalkNoSmaller}
 use Rattle.search.specs.Walk.{pass, down, give, Frame, Act, leave, doing, enter, unitOf, takesMember}
 use Rattle.search.specs.Run.{Walk, Walked, Ending, exhausted, onWork, onEvaluation, onFrontier, Phase, going, ended, Limits, limitsOf, root, stacked, begin, spend, handed, doneWith, afterAct, onTop, unit, units, stopped, waiting, resumed, takenUp}
 use Rattle.enumeration.proofs.Whole.{ended-stays}
-use Rattle.enumeration.proofs.Budgets.{walkIn, Short, short-ends}
+use Rattle.enumeration.proofs.Budgets.{walkIn, Short, short-ends, begun}
 
 -- what the first let pass, the second let pass
 pub record Wider (l m : Limits) : Type 0 where
@@ -28,7 +28,7 @@ larger-wider b c more =
       full = λ n e. let h = leb-false (b .«max_frontier») n e in let k = more .frontier in lt-leb (c .«max_frontier») n (omega arith);
     }
 
--- a stack with a frame is gone on with
+-- a stack with a frame is continued
 resumed-live : (p : Panel) (w : Walk) (st : List Frame) → 0 < length st → resumed p w st ≡ going w
 resumed-live p w [] h = let z : ⊥ = omega arith in absurd z
 resumed-live p w (f ∷ st) h = refl
@@ -49,7 +49,7 @@ begin-fine p w none = go (ltb (w .families) (length (p .families))) refl
     go false e = ap (resumed p w) none ∙ rw e
 
 module _ (p : Panel) (l m : Limits) (wider : Wider l m) where
-  -- within n units of s the tighter limits came to r, at this much work from `from` on; the wider reach it in as many, and take it up
+  -- the tighter limits reached r within n units of s, the work then counted from `from` on; the wider reach it in as many units, and take it up
   pub record Reached (n from : ℕ) (s : Phase) (r : Walked) : Type 0 where
     pub done : ℕ
     pub few : done ≤ n
@@ -67,18 +67,13 @@ module _ (p : Panel) (l m : Limits) (wider : Wider l m) where
   stands n e w none short h =
       record { done = 0; few = omega arith; work = omega arith; there = sym (ap (takenUp p m w) none ∙ resumed-live p w (w .stack) h); whole = λ q. absurd (short-ends e short q) }
 
-  begun : (n : ℕ) → Later n → (w : Walk) → w .stack ≡ [] → Reached n (w .work) (begin p w) (stopped (units p l n (begin p w)))
-  begun n ih w none =
-      subst (λ (x : ℕ). Reached n x (begin p w) (stopped (units p l n (begin p w)))) (go (ltb (w .families) (length (p .families)))) (ih (begin p w) (begin-fine p w none))
-    where
-      go : (t : Bool) → walkIn (pick t (going (stacked w (root p (w .families) ∷ []))) (ended exhausted w)) .work ≡ w .work
-      go true = refl
-      go false = refl
+  begins : (n : ℕ) → Later n → (w : Walk) → w .stack ≡ [] → Reached n (w .work) (begin p w) (stopped (units p l n (begin p w)))
+  begins n ih w none = subst (λ (x : ℕ). Reached n x (begin p w) (stopped (units p l n (begin p w)))) (begun p w none .work) (ih (begin p w) (begin-fine p w none))
 
   acts : (n : ℕ) → Later n → (w : Walk) (d : ℕ) (rest : List Frame) (t : Act)
       → Reached n (suc (w .work)) (afterAct p m w d rest t) (stopped (units p l n (afterAct p l w d rest t)))
   unfolding units
-  acts n ih w d [] leave = begun n ih (doneWith (spend w d [])) refl
+  acts n ih w d [] leave = begins n ih (doneWith (spend w d [])) refl
   acts n ih w d (g ∷ rest) leave = ih (going (spend w d (g ∷ rest))) (omega arith)
   acts n ih w d rest (doing pass g) = ih (going (spend w d (g ∷ rest))) (omega arith)
   acts n ih w d rest (doing (give rs) g) = ih (going (handed (spend w d (g ∷ rest)) (record { family = w .families; routes = rs }))) (omega arith)

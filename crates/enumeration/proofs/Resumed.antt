@@ -1,4 +1,4 @@
--- A walk stopped by its budgets and taken up under larger ones comes to what one walk under the larger comes to.
+-- A walk stopped by its budgets and continued under larger ones ends as one walk under the larger does.
 use Prim.Native.Nat.{ℕ, zero, suc, _+_, _-_, _≤_}
 use native.Mathlib.Omega.{arith}
 use native.Mathlib.Nat.{add-zero, zero-add}
@@ -16,7 +16,7 @@ use Rattle.search.specs.Budget.{WalkNoSmaller}
 use Rattle.search.specs.Walk.{pass, down, give, Place, Frame, Act, leave, doing, enter, unitOf, takesMember}
 use Rattle.search.specs.Run.{Walk, Walked, Ending, exhausted, onWork, onEvaluation, onFrontier, Phase, going, ended, Limits, limitsOf, root, stacked, begin, spend, doneWith, afterAct, onTop, unit, units, stopped, run, seeds, seededWith, seeded, short, waiting, resumed, takenUp, afterSeeding, walkFrom, continued, untouched, walk}
 use Rattle.enumeration.proofs.Whole.{ended-stays, units-add}
-use Rattle.enumeration.proofs.Budgets.{walkIn}
+use Rattle.enumeration.proofs.Budgets.{walkIn, begun}
 use Rattle.enumeration.proofs.Suffice.{given, seeded-walk, short-not}
 use Rattle.enumeration.proofs.Limits.{larger-wider, begin-fine, Reached, reach}
 use Rattle.search.proofs.Behind.{endBehind, bare, behind-bare, walk-behind}
@@ -111,7 +111,7 @@ module _ (p : Panel) where
       ap (seededWith w) none
       ∙ (λ i. record { work = add-zero (w .work) i; evaluations = add-zero (w .evaluations) i; natives = add-zero (w .natives) i; donors = w .donors; families = w .families; stack = w .stack; out = append-nil (w .out) i })
 
-  -- a walk with all natives evaluated is gone on with as it stands
+  -- a walk with all natives evaluated is continued as it stands
   on-whole : (c : SearchBudget) (l : List Place) (w : Walk) → w .natives ≡ length (p .families)
       → walkFrom p c l w ≡ run p c (c .«max_work» - w .work) (takenUp p (limitsOf c) w l)
   unfolding walkFrom afterSeeding
@@ -159,13 +159,6 @@ module _ (p : Panel) (b c : SearchBudget) (more : WalkNoSmaller b c) where
   reached : Reached p (limitsOf b) (limitsOf c) (larger-wider b c more) left-b (walkIn (begin p sown) .work) (begin p sown) end-b
   reached = reach p (limitsOf b) (limitsOf c) (larger-wider b c more) left-b (begin p sown) (begin-fine p sown refl)
 
-  begin-work : walkIn (begin p sown) .work ≡ sown .work
-  begin-work = go (ltb (sown .families) (length (p .families)))
-    where
-      go : (t : Bool) → walkIn (pick t (going (stacked sown (root p (sown .families) ∷ []))) (ended exhausted sown)) .work ≡ sown .work
-      go true = refl
-      go false = refl
-
   -- the larger budgets' run is the smaller's, taken up
   run-on : run p c (c .«max_work» - sown .work) (begin p sown) ≡ run p c (c .«max_work» - end-b .walk .work) (takenUp p (limitsOf c) (end-b .walk) (waiting (end-b .ending)))
   unfolding run
@@ -173,7 +166,7 @@ module _ (p : Panel) (b c : SearchBudget) (more : WalkNoSmaller b c) where
       let r = reached in
       let few = r .few in
       let work = r .work in
-      let from = begin-work in
+      let from = begun p sown refl .work in
       let m = more .work in
       let s = seeds-few p 0 (p .families) (b .«max_work») (b .«max_evaluations») in
       let n : c .«max_work» - sown .work ≡ r .done + (c .«max_work» - end-b .walk .work) = omega arith in

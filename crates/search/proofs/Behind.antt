@@ -9,8 +9,8 @@ use Rattle.ground.specs.Lists.{pick}
 use Rattle.image.specs.Panel.{Panel, pathsAt}
 use Rattle.evaluate.specs.Segments.{Assignment}
 use Rattle.search.specs.declared.SearchBudget.{SearchBudget}
-use Rattle.search.specs.Walk.{pass, down, give, Place, Frame, Act, leave, doing, enter, unitOf, takesMember}
-use Rattle.search.specs.Run.{Walk, Walked, exhausted, onEvaluation, onFrontier, Phase, going, ended, Limits, limitsOf, root, stacked, begin, spend, doneWith, afterAct, onTop, unit, units, stopped, run, seeds, seededWith, seeded, short, resumed, takenUp, afterSeeding, walkFrom}
+use Rattle.search.specs.Walk.{pass, down, give, Place, Frame, Act, leave, doing, unitOf, takesMember}
+use Rattle.search.specs.Run.{Walk, Walked, onEvaluation, Phase, going, ended, Limits, limitsOf, begin, spend, doneWith, afterAct, onTop, unit, units, stopped, run, seeds, seededWith, seeded, short, resumed, takenUp, afterSeeding, walkFrom}
 
 -- the same walk, with these handed over before
 abbrev pub behind : List Assignment → Walk → Walk
@@ -37,7 +37,7 @@ pick-behind l false a c = refl
 
 module _ (p : Panel) (l : List Assignment) where
   begin-behind : (w : Walk) → begin p (behind l w) ≡ phaseBehind l (begin p w)
-  begin-behind w = pick-behind l (ltb (w .families) (length (p .families))) (going (stacked w (root p (w .families) ∷ []))) (ended exhausted w)
+  begin-behind w = pick-behind l (ltb (w .families) (length (p .families))) _ _
 
   resumed-behind : (w : Walk) (st : List Frame) → resumed p (behind l w) st ≡ phaseBehind l (resumed p w st)
   resumed-behind w [] = begin-behind w
@@ -48,7 +48,7 @@ module _ (p : Panel) (l : List Assignment) where
     act-behind w d [] leave = begin-behind (doneWith (spend w d []))
     act-behind w d (g ∷ rest) leave = refl
     act-behind w d rest (doing pass g) = refl
-    act-behind w d rest (doing (down a) g) = pick-behind l (lim .full (suc (length rest))) (ended (onFrontier a) (spend w d (g ∷ rest))) (going (spend w d (enter p a ∷ g ∷ rest)))
+    act-behind w d rest (doing (down a) g) = pick-behind l (lim .full (suc (length rest))) _ _
     act-behind w d rest (doing (give rs) g) = ap (λ (o : List Assignment). going (record { work = suc (w .work); evaluations = suc (w .evaluations); natives = w .natives; donors = w .donors + d; families = w .families; stack = g ∷ rest; out = o })) (append-assoc l (w .out) (record { family = w .families; routes = rs } ∷ []))
 
     top-behind : (w : Walk) (st : List Frame) → onTop p lim (behind l w) st ≡ phaseBehind l (onTop p lim w st)
@@ -66,7 +66,7 @@ module _ (p : Panel) (l : List Assignment) where
 
     taken-behind : (w : Walk) (c : List Place) → takenUp p lim (behind l w) c ≡ phaseBehind l (takenUp p lim w c)
     taken-behind w [] = resumed-behind w (w .stack)
-    taken-behind w (a ∷ c) = pick-behind l (lim .full (length (w .stack))) (ended (onFrontier a) w) (going (stacked w (enter p a ∷ w .stack)))
+    taken-behind w (a ∷ c) = pick-behind l (lim .full (length (w .stack))) _ _
 
   stopped-behind : (s : Phase) → stopped (phaseBehind l s) ≡ endBehind l (stopped s)
   stopped-behind (going w) = refl

@@ -1,6 +1,7 @@
 //! The crate from outside, over the archive that it is linked to.
 mod builder;
 mod examples;
+mod larger;
 mod panel_e;
 mod recorded;
 mod refusals;
