@@ -21,6 +21,7 @@ typedef struct { uint64_t refusal, place, lo, hi; } bucket_reply;
 /* words: how many words of out were written, the normal form */
 typedef struct { uint64_t refusal, place, words; } assignment_reply;
 
+/* a larger budget only adds: with none smaller and the same tie width, the incumbent is the same or scores lower */
 typedef struct { uint64_t max_work, max_evaluations, max_frontier, max_optima; double tie_width; } search_budget;
 
 /* status: 1 certified, 2 support incomplete, 3 work, 4 evaluation, 5 frontier */

@@ -62,11 +62,11 @@ pub record OnlyAdds (s : List ℕ) (b c : SearchBudget) (xs : List Float) (q r :
   pub counters : Exhausted q → SameCounters q r
   pub noMore : Exhausted q → handedOver s c ≡ handedOver s b
   pub best : Exhausted q → keptBy s c xs .best ≡ keptBy s b xs .best
-  -- a certified run stays as it was, though max_optima be larger; so does any exhausted run with nothing discarded or max_optima the same
+  -- a certified run stays as it was, even if max_optima is larger; so does an exhausted one with max_optima the same or nothing discarded
   pub certified : q .status ≡ statusNumber Certified → AsItWas s b c xs q r
   pub settled : Exhausted q → Roomy b c q → AsItWas s b c xs q r
-  -- of a run that was stopped, with nothing discarded or max_optima the same: what was tied and is within the tie width of the new
-  -- incumbent stays tied, in its order, and what is new comes behind it
+  -- of any run with max_optima the same or nothing discarded: what was tied and is within the tie width of the new incumbent stays tied,
+  -- in its order, and what is new comes behind it
   pub stay : Roomy b c q → (j : Evaluated) → keptBy s c xs .best ≡ j ∷ []
       → (new : List Evaluated) × (keptBy s c xs .tied ≡ tiesTo scoreOf (j .score) (b .«tie_width») (keptBy s b xs .tied) ++ new)
   -- with max_optima larger and some discarded: if no more is handed over, and equal assignments have equal scores, what was tied stays tied

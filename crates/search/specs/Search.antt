@@ -1,4 +1,4 @@
--- The search: the walk with its scores, from any state on (01, "The walk").
+-- The search: the walk with its scores, from any state with no child pending (01, "The walk").
 use Prim.Native.Nat.{suc}
 use mathlib.Core.List.{List, []}
 use lib.ListN.{drop}
