@@ -3,22 +3,18 @@ use Prim.Native.Nat.{ℕ, suc}
 use native.Mathlib.Omega.{arith}
 use mathlib.Core.Path.{_≡_, sym, ap, _∙_}
 use mathlib.Core.List.{List}
-use lib.ListN.{length, getD}
+use lib.ListN.{getD}
 use lib.Ieee.{Float}
 use Rattle.image.specs.Panel.{panelOf}
 use Rattle.search.specs.declared.SearchBudget.{SearchBudget}
 use Rattle.search.specs.declared.SearchReply.{SearchReply}
-use Rattle.search.specs.Run.{walk}
-use Rattle.search.specs.Counters.{tallyOf}
 use Rattle.search.specs.Keep.{Evaluated}
-use Rattle.search.specs.Search.{walked, searchedAs, searchFrom, search}
 use Rattle.search.specs.Rooms.{slotWidth}
-use Rattle.search.specs.Answers.{Rooms, searchRefusal, replyOf, searchAnswer, searchRooms}
-use Rattle.certificate.specs.Terms.{Admitted, Exhausted, handedOver, keptBy}
+use Rattle.search.specs.Answers.{Rooms, searchAnswer, searchRooms}
+use Rattle.certificate.specs.Terms.{Admitted, Exhausted, keptBy}
 use Rattle.certificate.specs.Told.{InSlot}
 use Rattle.certificate.proofs.Unrefused.{unrefused, none-refuses}
-use Rattle.certificate.proofs.Reply.{reply-of, admitted-passes}
-use Rattle.enumeration.proofs.Tally.{walk-tallied}
+use Rattle.certificate.proofs.Reply.{evaluations-are, admitted-passes}
 use Rattle.certificate.proofs.Certificate.{demand3}
 use Rattle.certificate.proofs.Told.{rooms-tell}
 use Rattle.breeder.specs.Sentence.{Asked, Sheet, Sentence}
@@ -28,12 +24,6 @@ module _ (s : List ℕ) (b : SearchBudget) (xs : List Float) (rooms : Rooms) (r 
   admitted =
       let given = none-refuses s b xs rooms (unrefused s b xs rooms (ap (λ (q : SearchReply). q .refusal) (sym er) ∙ asked .passed)) in
       record { panel = given .panel; budget = given .budget; roomy = given .roomy; families = asked .families; scored = given .scored; agreed = asked .agreed }
-
--- ---- the evaluations are counted
-
-pub evaluations-are : (s : List ℕ) (b : SearchBudget) (xs : List Float) (rooms : Rooms) → searchRefusal s b xs rooms .number ≡ 0 → searchAnswer s b xs rooms .evaluations ≡ length (handedOver s b)
-unfolding replyOf search searchFrom searchedAs walked tallyOf walk
-evaluations-are s b xs rooms none = ap (λ (q : SearchReply). q .evaluations) (reply-of s b xs rooms none) ∙ walk-tallied (panelOf s) b
 
 -- ---- the sentence
 

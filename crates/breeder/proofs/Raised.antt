@@ -18,10 +18,10 @@ use Rattle.certificate.specs.Told.{InSlot}
 use Rattle.certificate.specs.Larger.{OnlyAdds}
 use Rattle.certificate.proofs.Unrefused.{unrefused, none-refuses}
 use Rattle.certificate.proofs.Evaluated.{handed-best}
+use Rattle.certificate.proofs.Reply.{evaluations-are}
 use Rattle.certificate.proofs.Told.{slot-told, tied-many}
 use Rattle.certificate.proofs.Larger.{larger-only-adds}
 use Rattle.breeder.specs.Raised.{Raised, Held, Added, RaisedOnlyAdds}
-use Rattle.breeder.proofs.Asked.{evaluations-are}
 
 module _ (s : List ℕ) (b c : SearchBudget) (xs : List Float) (rooms others after later : Rooms) (q r : SearchReply) (eq : q ≡ searchAnswer s b xs rooms) (er : r ≡ searchAnswer s c xs others)
     (ea : after ≡ searchRooms s b xs rooms) (el : later ≡ searchRooms s c xs others) (raised : Raised b c q r) where

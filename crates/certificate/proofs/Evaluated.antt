@@ -52,26 +52,27 @@ module _ (s : List ℕ) (b : SearchBudget) (xs : List Float) where
       ⊎-elim (λ k. absurd (List·Memᴰ·not-nil k)) (λ k. k)
       (tied-from scoreOf sameEvaluated (b .«max_optima») (b .«tie_width») nothing (evaluations s b xs) e (subst (λ (k : Kept Evaluated). List·Memᴰ e (k .tied)) kept-is m))
 
-  -- with an evaluation there is an incumbent
+  -- the incumbent is the first of the least score
+  pub best-is : (a : Evaluated) (l : List Evaluated) → evaluations s b xs ≡ a ∷ l → keptBy s b xs .best ≡ champion scoreOf a l ∷ []
+  best-is a l e =
+      ap (λ (k : Kept Evaluated). k .best) kept-is
+      ∙ ap (λ (t : List Evaluated). keepAll scoreOf sameEvaluated (b .«max_optima») (b .«tie_width») nothing t .best) e
+      ∙ incumbent scoreOf sameEvaluated (b .«max_optima») (b .«tie_width») a l
+
+  -- with an evaluation there is one
   some-best : (l : List Evaluated) → evaluations s b xs ≡ l → (l ≡ [] → ⊥) → (i : Evaluated) × (keptBy s b xs .best ≡ i ∷ [])
   some-best [] e some = absurd (some refl)
-  some-best (a ∷ l) e some = (
-    champion scoreOf a l,
-    ap (λ (k : Kept Evaluated). k .best) kept-is
-        ∙ ap (λ (t : List Evaluated). keepAll scoreOf sameEvaluated (b .«max_optima») (b .«tie_width») nothing t .best) e
-        ∙ incumbent scoreOf sameEvaluated (b .«max_optima») (b .«tie_width») a l,
-  )
+  some-best (a ∷ l) e some = (champion scoreOf a l, best-is a l e)
 
-  -- the incumbent was evaluated too
+  -- it was evaluated too
   pub best-evaluated : (i : Evaluated) → keptBy s b xs .best ≡ i ∷ [] → List·Memᴰ i (evaluations s b xs)
   unfolding keepAll
-  best-evaluated i e = go (evaluations s b xs) (ap (λ (k : Kept Evaluated). k .best) (sym kept-is) ∙ e)
+  best-evaluated i e = go (evaluations s b xs) refl
     where
-      go : (l : List Evaluated) → keepAll scoreOf sameEvaluated (b .«max_optima») (b .«tie_width») nothing l .best ≡ i ∷ [] → List·Memᴰ i l
-      go [] f = absurd (cons≢nil (sym f))
-      go (a ∷ l) f =
-          let is : champion scoreOf a l ≡ i = head-eq-of-cons-eq (sym (incumbent scoreOf sameEvaluated (b .«max_optima») (b .«tie_width») a l) ∙ f) in
-          Memᴰ·cast (sym is) (champion-one scoreOf a l)
+      go : (l : List Evaluated) → evaluations s b xs ≡ l → List·Memᴰ i (evaluations s b xs)
+      go [] f =
+          absurd (cons≢nil (sym (sym (ap (λ (k : Kept Evaluated). k .best) kept-is ∙ ap (λ (t : List Evaluated). keepAll scoreOf sameEvaluated (b .«max_optima») (b .«tie_width») nothing t .best) f) ∙ e)))
+      go (a ∷ l) f = subst (λ (t : List Evaluated). List·Memᴰ i t) (sym f) (Memᴰ·cast (sym (head-eq-of-cons-eq (sym (best-is a l f) ∙ e))) (champion-one scoreOf a l))
 
   module _ (fine : Matched FiniteScore (handedOver s b) (take (length (handedOver s b)) xs)) where
     pub made : map assignmentOf (evaluations s b xs) ≡ handedOver s b

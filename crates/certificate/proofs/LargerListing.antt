@@ -14,22 +14,16 @@ use Rattle.evaluate.specs.Segments.{Assignment, flat}
 use Rattle.evaluate.specs.Words.{encode}
 use Rattle.evaluate.specs.Check.{over}
 use Rattle.search.specs.declared.SearchBudget.{SearchBudget}
-use Rattle.search.specs.declared.ListReply.{ListReply}
-use Rattle.search.specs.Run.{Walked, walk}
-use Rattle.search.specs.Rooms.{leftIn}
-use Rattle.search.specs.Answers.{ListRooms, fitting, written, listReplyOf, listAnswer, listedIn, listRooms}
-use Rattle.enumeration.proofs.Tally.{walk-tallied}
+use Rattle.search.specs.Run.{Walked}
+use Rattle.search.specs.Answers.{ListRooms, fitting, written, listRooms}
+use Rattle.enumeration.proofs.Ports.{flat-append}
 use Rattle.enumeration.proofs.Resumed.{later, split}
 use Rattle.certificate.specs.Terms.{handedOver}
 use Rattle.certificate.specs.Larger.{LargerListsMore}
 use Rattle.certificate.proofs.Scores.{map-append}
-use Rattle.certificate.proofs.Listing.{listed, unrefused}
+use Rattle.certificate.proofs.Listing.{evaluations-listed, written-are, words-are, out-is}
 
 -- ---- lists
-
-flat-append : {A : Type 0} (l m : List (List A)) → flat (l ++ m) ≡ flat l ++ flat m
-flat-append [] m = refl
-flat-append (x ∷ l) m = ap (λ y. x ++ y) (flat-append l m) ∙ sym (append-assoc x (flat l) (flat m))
 
 drop-longer : {A : Type 0} (n : ℕ) (l m : List A) → (k : List A) × (drop n (l ++ m) ≡ drop n l ++ k)
 drop-longer zero l m = (m, refl)
@@ -58,28 +52,8 @@ written-more from n m l k h =
 
 -- ---- the listing
 
-module _ (s : List ℕ) (b : SearchBudget) (from : ℕ) (rooms : ListRooms) (none : listAnswer s b from rooms .refusal ≡ 0) where
-  abbrev lines : List (List ℕ)
-  lines = written from (length (rooms .out)) (handedOver s b)
-
-  reply-is : listAnswer s b from rooms ≡ listReplyOf (walk (panelOf s) b) (written from (length (rooms .out)) (handedOver s b))
-  reply-is = listed s b from rooms none
-
-  out-is : listRooms s b from rooms .out ≡ over (flat (written from (length (rooms .out)) (handedOver s b))) (rooms .out)
-  unfolding listRooms listedIn leftIn
-  out-is = rw (unrefused s b from rooms none)
-
-  evaluations-are : listAnswer s b from rooms .evaluations ≡ length (handedOver s b)
-  unfolding listReplyOf
-  evaluations-are = ap (λ (r : ListReply). r .evaluations) reply-is ∙ walk-tallied (panelOf s) b
-
-  written-are : listAnswer s b from rooms .written ≡ length lines
-  unfolding listReplyOf
-  written-are = ap (λ (r : ListReply). r .written) reply-is
-
-  words-are : listAnswer s b from rooms .words ≡ length (flat lines)
-  unfolding listReplyOf
-  words-are = ap (λ (r : ListReply). r .words) reply-is
+abbrev lines : List ℕ → SearchBudget → ℕ → ListRooms → List (List ℕ)
+lines s b from rooms = written from (length (rooms .out)) (handedOver s b)
 
 -- For the reader: A LARGER BUDGET LISTS MORE
 pub larger-lists-more : LargerListsMore
@@ -87,14 +61,14 @@ larger-lists-more s b c from rooms others first second more wide =
     let rest = later (panelOf s) b c more .walk .out in
     let cut : handedOver s c ≡ handedOver s b ++ rest = ap (λ (w : Walked). w .walk .out) (split (panelOf s) b c more) in
     let n : length (handedOver s c) ≡ length (handedOver s b) + length rest = ap length cut ∙ length-append (handedOver s b) rest in
-    let x = lines s b from rooms first in
+    let x = lines s b from rooms in
     let (y, f) = written-more from (length (rooms .out)) (length (others .out)) (handedOver s b) rest wide in
-    let all : lines s c from others second ≡ x ++ y = ap (written from (length (others .out))) cut ∙ f in
-    let m : length (lines s c from others second) ≡ length x + length y = ap length all ∙ length-append x y in
-    let flats : flat (lines s c from others second) ≡ flat x ++ flat y = ap flat all ∙ flat-append x y in
-    let k : length (flat (lines s c from others second)) ≡ length (flat x) + length (flat y) = ap length flats ∙ length-append (flat x) (flat y) in
-    let eb = evaluations-are s b from rooms first in
-    let ec = evaluations-are s c from others second in
+    let all : lines s c from others ≡ x ++ y = ap (written from (length (others .out))) cut ∙ f in
+    let m : length (lines s c from others) ≡ length x + length y = ap length all ∙ length-append x y in
+    let flats : flat (lines s c from others) ≡ flat x ++ flat y = ap flat all ∙ flat-append x y in
+    let k : length (flat (lines s c from others)) ≡ length (flat x) + length (flat y) = ap length flats ∙ length-append (flat x) (flat y) in
+    let eb = evaluations-listed s b from rooms first in
+    let ec = evaluations-listed s c from others second in
     let wb = written-are s b from rooms first in
     let wc = written-are s c from others second in
     let vb = words-are s b from rooms first in

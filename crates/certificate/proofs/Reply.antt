@@ -20,10 +20,11 @@ use Rattle.search.specs.declared.SearchReply.{SearchReply}
 use Rattle.search.specs.declared.Status.the-variants.{Certified, SupportIncomplete}
 use Rattle.search.specs.Budget.{widthOk, budgetOk, budgetInBounds, budgetRefusal}
 use Rattle.search.specs.Run.{Ending, exhausted, onWork, onEvaluation, onFrontier, walk}
-use Rattle.search.specs.Counters.{stopOf, statusOf, statusNumber}
+use Rattle.search.specs.Counters.{stopOf, statusOf, statusNumber, tallyOf}
 use Rattle.search.specs.Keep.{scoresRefusal}
 use Rattle.search.specs.Search.{walked, evaluationRefusal, searchedAs, searchFrom, search}
 use Rattle.search.specs.Answers.{Rooms, searchRefusal, replyOf, searchAnswer}
+use Rattle.enumeration.proofs.Tally.{walk-tallied}
 use Rattle.certificate.specs.Terms.{FiniteScore, Admitted, Exhausted, keptBy, handedOver}
 
 -- ---- scores
@@ -89,6 +90,10 @@ module _ (s : List ℕ) (b : SearchBudget) (xs : List Float) (rooms : Rooms) (no
   pub status-of : searchAnswer s b xs rooms .status ≡ statusNumber (statusOf (stopOf (walk (panelOf s) b .ending)) (keptBy s b xs .discarded))
   unfolding replyOf search searchFrom searchedAs walked walk
   status-of = ap (λ (r : SearchReply). r .status) (reply-of s b xs rooms none)
+
+  pub evaluations-are : searchAnswer s b xs rooms .evaluations ≡ length (handedOver s b)
+  unfolding replyOf search searchFrom searchedAs walked tallyOf walk
+  evaluations-are = ap (λ (r : SearchReply). r .evaluations) (reply-of s b xs rooms none) ∙ walk-tallied (panelOf s) b
 
   -- it reports exhaustion exactly when its walk ended by itself
   pub exhausted-iff : Exhausted (searchAnswer s b xs rooms) ↔ (walk (panelOf s) b .ending ≡ exhausted)

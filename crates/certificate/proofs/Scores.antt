@@ -21,12 +21,12 @@ use Rattle.search.specs.Answers.{Rooms, searchAnswer}
 use Rattle.evaluate.proofs.Lists.{keep-only, keep-in, pairs-keep, pairs-through, each-mem, mem-map}
 use Rattle.enumeration.proofs.Suffice.{natives-length}
 use Rattle.scoring.proofs.Order.{is-T, lt→not-le}
-use Rattle.scoring.proofs.Rule.{Finite, champion, champion-least, champion-one, incumbent, scoring, firsts}
+use Rattle.scoring.proofs.Rule.{Finite, champion, champion-least, champion-one, scoring, firsts}
 use Rattle.scoring.proofs.Firsts.{firsts-only, firsts-all, firsts-once, firsts-ahead, Ahead, Other}
 use Rattle.certificate.specs.Terms.{Admitted, Exhausted, Scores, evaluations, handedOver, keptBy, NativesThenLegal, Least, Ties, NoTwo, Earlier, assignmentOf}
 use Rattle.certificate.specs.Demand3.{AllScored, IncumbentIsLeast, TiedAre, TiedAreAll}
 use Rattle.certificate.proofs.Reply.{admitted-passes, certified-whole}
-use Rattle.certificate.proofs.Evaluated.{same-told, same-tells, kept-is, made, finites, handed-of}
+use Rattle.certificate.proofs.Evaluated.{same-told, same-tells, kept-is, best-is, made, finites, handed-of}
 use Rattle.certificate.proofs.Walk.{all-evaluated-once, handed-legal}
 
 -- ---- tests and truths
@@ -78,12 +78,6 @@ module _ (s : List ℕ) (b : SearchBudget) (xs : List Float) (rooms : Rooms) (gi
     module _ (e : Evaluated) (l : List Evaluated) (are : evaluations s b xs ≡ e ∷ l) where
       abbrev best : Evaluated
       best = champion scoreOf e l
-
-      best-is : keptBy s b xs .best ≡ best ∷ []
-      best-is =
-          ap (λ (k : Kept Evaluated). k .best) (kept-is s b xs)
-          ∙ ap (λ (t : List Evaluated). keepAll scoreOf sameEvaluated (b .«max_optima») (b .«tie_width») nothing t .best) are
-          ∙ incumbent scoreOf sameEvaluated (b .«max_optima») (b .«tie_width») e l
 
       best-in : List·Memᴰ best (evaluations s b xs)
       best-in = subst (λ (t : List Evaluated). List·Memᴰ best t) (sym are) (champion-one scoreOf e l)
@@ -182,7 +176,7 @@ incumbent-is-least s b xs rooms given told = go (evaluations s b xs) refl (some 
   where
     go : (l : List Evaluated) → evaluations s b xs ≡ l → 0 < length (evaluations s b xs) → (i : Evaluated) × (keptBy s b xs .best ≡ i ∷ []) × Least s b xs i
     go [] e h = let z : length (evaluations s b xs) ≡ 0 = ap length e in absurd (omega arith)
-    go (d ∷ l) e h = (champion scoreOf d l, best-is s b xs rooms given told d l e, least s b xs rooms given told d l e)
+    go (d ∷ l) e h = (champion scoreOf d l, best-is s b xs d l e, least s b xs rooms given told d l e)
 
 pub tied-are-all : TiedAreAll
 tied-are-all s b xs rooms given certified i is =
@@ -194,5 +188,5 @@ tied-are-all s b xs rooms given certified i is =
     go : (l : List Evaluated) → evaluations s b xs ≡ l → 0 < length (evaluations s b xs) → TiedAre s b xs i
     go [] e h = let z : length (evaluations s b xs) ≡ 0 = ap length e in absurd (omega arith)
     go (d ∷ l) e h =
-        let same : champion scoreOf d l ≡ i = head-eq-of-cons-eq (sym (best-is s b xs rooms given told d l e) ∙ is) in
+        let same : champion scoreOf d l ≡ i = head-eq-of-cons-eq (sym (best-is s b xs d l e) ∙ is) in
         subst (TiedAre s b xs) same (tied s b xs rooms given told d l e (certified-whole s b xs rooms (admitted-passes s b xs rooms given) certified))

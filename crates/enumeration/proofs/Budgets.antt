@@ -72,6 +72,7 @@ module _ (p : Panel) where
     pub live : Live s
     pub work : walkIn s .work ≡ w .work
     pub evaluations : walkIn s .evaluations ≡ w .evaluations
+    pub natives : walkIn s .natives ≡ w .natives
     pub frames : framesOf s ≤ 1
     pub ending : (e : Ending) (W : Walk) → s ≡ ended e W → W ≡ w
 
@@ -79,8 +80,8 @@ module _ (p : Panel) where
   begun w none = go (ltb (w .families) (length (p .families)))
     where
       go : (t : Bool) → Begun w (pick t (going (stacked w (root p (w .families) ∷ []))) (ended exhausted w))
-      go true = record { live = omega arith; work = refl; evaluations = refl; frames = omega arith; ending = λ e W q. absurd (going-ended (stacked w (root p (w .families) ∷ [])) e W q) }
-      go false = record { live = tt; work = refl; evaluations = refl; frames = (let z : length (w .stack) ≡ 0 = ap length none in omega arith); ending = λ e W q. ap walkIn (sym q) }
+      go true = record { live = omega arith; work = refl; evaluations = refl; natives = refl; frames = omega arith; ending = λ e W q. absurd (going-ended (stacked w (root p (w .families) ∷ [])) e W q) }
+      go false = record { live = tt; work = refl; evaluations = refl; natives = refl; frames = (let z : length (w .stack) ≡ 0 = ap length none in omega arith); ending = λ e W q. ap walkIn (sym q) }
 
   act-counts : (w : Walk) (d : ℕ) (rest : List Frame) (c : Act) → Counted w (afterAct p unlimited w d rest c)
   act-counts w d [] leave =

@@ -140,9 +140,12 @@ abbrev pub Past : Bool → ℕ → ℕ → Type 0
 Past false c q = c < q
 Past true c q = q < c
 
+pub flat-append : {A : Type 0} (ls ms : List (List A)) → flat (ls ++ ms) ≡ flat ls ++ flat ms
+flat-append [] ms = refl
+flat-append (k ∷ ls) ms = ap (λ x. k ++ x) (flat-append ls ms) ∙ sym (append-assoc k (flat ls) (flat ms))
+
 flat-snoc : {A : Type 0} (ls : List (List A)) (l : List A) → flat (ls ++ (l ∷ [])) ≡ flat ls ++ l
-flat-snoc [] l = append-nil l
-flat-snoc (k ∷ ls) l = ap (λ x. k ++ x) (flat-snoc ls l) ∙ sym (append-assoc k (flat ls) l)
+flat-snoc ls l = flat-append ls (l ∷ []) ∙ ap (λ x. flat ls ++ x) (append-nil l)
 
 anchors-rise : (q r : Port) → placeLt q r ≡ true → q .anchor ≤ r .anchor
 unfolding placeLt placeOf

@@ -5,63 +5,21 @@ use native.Mathlib.Nat.{add-zero, zero-add}
 use mathlib.Core.Path.{_≡_, refl, sym, _∙_, ap}
 use mathlib.Core.Bool.{Bool, true, false}
 use mathlib.Core.List.{List, [], _∷_, _++_, append-nil}
-use lib.Dec.{leb, ltb, eqb}
+use lib.Dec.{leb, eqb}
 use lib.ListN.{length, drop, drop-of-length-le, length-append}
 use borrow.Author.Tests.{eq-eqb, eqb-true}
 use Rattle.ground.specs.Lists.{pick}
-use Rattle.image.specs.Panel.{Panel, pathsAt}
+use Rattle.image.specs.Panel.{Panel}
 use Rattle.evaluate.specs.Segments.{Assignment, nativeOf}
 use Rattle.search.specs.declared.SearchBudget.{SearchBudget}
 use Rattle.search.specs.Budget.{WalkNoSmaller}
-use Rattle.search.specs.Walk.{pass, down, give, Place, Frame, Act, leave, doing, enter, unitOf, takesMember}
-use Rattle.search.specs.Run.{Walk, Walked, Ending, exhausted, onWork, onEvaluation, onFrontier, Phase, going, ended, Limits, limitsOf, root, stacked, begin, spend, doneWith, afterAct, onTop, unit, units, stopped, run, seeds, seededWith, seeded, short, waiting, resumed, takenUp, afterSeeding, walkFrom, continued, untouched, walk}
+use Rattle.search.specs.Walk.{Place}
+use Rattle.search.specs.Run.{Walk, Walked, Ending, exhausted, onWork, onEvaluation, ended, limitsOf, begin, units, stopped, run, seeds, seededWith, seeded, short, waiting, resumed, takenUp, afterSeeding, walkFrom, continued, untouched, walk}
 use Rattle.enumeration.proofs.Whole.{ended-stays, units-add}
 use Rattle.enumeration.proofs.Budgets.{walkIn, begun}
 use Rattle.enumeration.proofs.Suffice.{given, seeded-walk, short-not}
 use Rattle.enumeration.proofs.Limits.{larger-wider, begin-fine, Reached, reach}
 use Rattle.search.proofs.Behind.{endBehind, bare, behind-bare, walk-behind}
-
--- ---- the natives are counted by seeding alone
-
-module _ (p : Panel) (lim : Limits) where
-  begin-natives : (w : Walk) → walkIn (begin p w) .natives ≡ w .natives
-  begin-natives w = go (ltb (w .families) (length (p .families)))
-    where
-      go : (t : Bool) → walkIn (pick t (going (stacked w (root p (w .families) ∷ []))) (ended exhausted w)) .natives ≡ w .natives
-      go true = refl
-      go false = refl
-
-  act-natives : (w : Walk) (d : ℕ) (rest : List Frame) (t : Act) → walkIn (afterAct p lim w d rest t) .natives ≡ w .natives
-  act-natives w d [] leave = begin-natives (doneWith (spend w d []))
-  act-natives w d (g ∷ rest) leave = refl
-  act-natives w d rest (doing pass g) = refl
-  act-natives w d rest (doing (give rs) g) = refl
-  act-natives w d rest (doing (down a) g) = go (lim .full (suc (length rest)))
-    where
-      go : (t : Bool) → walkIn (pick t (ended (onFrontier a) (spend w d (g ∷ rest))) (going (spend w d (enter p a ∷ g ∷ rest)))) .natives ≡ w .natives
-      go true = refl
-      go false = refl
-
-  unit-natives : (w : Walk) → walkIn (unit p lim w) .natives ≡ w .natives
-  unit-natives w = go (lim .enough (w .evaluations)) (top (w .stack))
-    where
-      top : (st : List Frame) → walkIn (onTop p lim w st) .natives ≡ w .natives
-      top [] = begin-natives w
-      top (f ∷ rest) = act-natives w (pick (takesMember f) 1 0) rest (unitOf p (pathsAt p (w .families)) f)
-
-      go : (t : Bool) → walkIn (onTop p lim w (w .stack)) .natives ≡ w .natives → walkIn (pick t (ended onEvaluation w) (onTop p lim w (w .stack))) .natives ≡ w .natives
-      go true k = refl
-      go false k = k
-
-  units-natives : (n : ℕ) (s : Phase) → walkIn (units p lim n s) .natives ≡ walkIn s .natives
-  unfolding units
-  units-natives zero s = refl
-  units-natives (suc n) (ended e w) = refl
-  units-natives (suc n) (going w) = units-natives n (unit p lim w) ∙ unit-natives w
-
-stopped-walk : (s : Phase) → stopped s .walk ≡ walkIn s
-stopped-walk (going w) = refl
-stopped-walk (ended e w) = refl
 
 -- ---- seeding under more
 
@@ -156,7 +114,7 @@ module _ (p : Panel) (b c : SearchBudget) (more : WalkNoSmaller b c) where
   abbrev end-b : Walked
   end-b = stopped (units p (limitsOf b) left-b (begin p sown))
 
-  reached : Reached p (limitsOf b) (limitsOf c) (larger-wider b c more) left-b (walkIn (begin p sown) .work) (begin p sown) end-b
+  reached : Reached p (limitsOf b) (limitsOf c) (larger-wider b c more) left-b (walkIn (begin p sown) .work) (walkIn (begin p sown) .natives) (begin p sown) end-b
   reached = reach p (limitsOf b) (limitsOf c) (larger-wider b c more) left-b (begin p sown) (begin-fine p sown refl)
 
   -- the larger budgets' run is the smaller's, taken up
@@ -174,10 +132,7 @@ module _ (p : Panel) (b c : SearchBudget) (more : WalkNoSmaller b c) where
       ∙ ap stopped (units-add p (limitsOf c) (r .done) (c .«max_work» - end-b .walk .work) (begin p sown) ∙ ap (units p (limitsOf c) (c .«max_work» - end-b .walk .work)) (r .there))
 
   end-natives : end-b .walk .natives ≡ sown .natives
-  end-natives =
-      ap (λ (w : Walk). w .natives) (stopped-walk (units p (limitsOf b) left-b (begin p sown)))
-      ∙ units-natives p (limitsOf b) left-b (begin p sown)
-      ∙ begin-natives p (limitsOf b) sown
+  end-natives = reached .seeded ∙ begun p sown refl .natives
 
   whole-is : sown .natives ≡ length (p .families) → afterSeeding p b [] sown ≡ end-b
   unfolding afterSeeding run
