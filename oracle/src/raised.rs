@@ -112,6 +112,7 @@ fn broken(first: &Ran, second: &Ran) -> Option<&'static str> {
 pub fn pairs(run: &Run) -> Result<(), ()> {
     let subject = run.subject();
     let library = |image: &[u8], call: &Call| subject.make(image, call);
+    let linked = subject.has(Kind::Search) && subject.has(Kind::List);
     let (mut pairs, mut exhausted, mut lower, mut completed) = (0, 0, 0, 0);
     for index in run.from..run.from + run.count {
         let input = gen::input(run.seed, Kind::Search, index, Size::Wide);
@@ -128,7 +129,8 @@ pub fn pairs(run: &Run) -> Result<(), ()> {
         }
         let c = raised(&mut rng, &b);
         let asks: [&dyn Fn(&[u8], &Call) -> Outcome; 2] = [&judge::outcome, &library];
-        for (name, ask) in ["the original", "the subject"].into_iter().zip(asks) {
+        let names = ["the original", "the subject"].into_iter().take(1 + usize::from(linked));
+        for (name, ask) in names.zip(asks) {
             let (first, second) = (Ran::new(&image, &b, &scores, ask), Ran::new(&image, &c, &scores, ask));
             if first.reply()[0] != 0 || second.reply()[0] != 0 {
                 continue;
