@@ -1,4 +1,4 @@
-//! The six public calls as data: what goes in, and what comes out of the answer and of
+//! The public calls as data: what goes in, and what comes out of the answer and of
 //! every lent room, whole.
 use crate::rules::BudgetWords;
 
@@ -10,13 +10,24 @@ pub enum Kind {
     Check = 4,
     List = 5,
     Search = 6,
+    /// 7 is a job of the walk program.
+    Bound = 8,
 }
 
-pub const KINDS: [Kind; 6] = [Kind::Panel, Kind::Port, Kind::Bucket, Kind::Check, Kind::List, Kind::Search];
+pub const KINDS: [Kind; 7] =
+    [Kind::Panel, Kind::Port, Kind::Bucket, Kind::Check, Kind::List, Kind::Search, Kind::Bound];
 
 impl Kind {
     pub fn name(self) -> &'static str {
-        ["panel", "port", "bucket", "check", "list", "search"][self as usize - 1]
+        match self {
+            Kind::Panel => "panel",
+            Kind::Port => "port",
+            Kind::Bucket => "bucket",
+            Kind::Check => "check",
+            Kind::List => "list",
+            Kind::Search => "search",
+            Kind::Bound => "bound",
+        }
     }
     pub fn named(name: &str) -> Option<Self> {
         KINDS.into_iter().find(|k| k.name() == name)
@@ -53,6 +64,11 @@ pub enum Call {
         kept: usize,
         kept_scores: usize,
     },
+    /// The background goes by its bits; there is no image.
+    Bound {
+        counts: Vec<u64>,
+        background: u64,
+    },
 }
 
 impl Call {
@@ -64,13 +80,14 @@ impl Call {
             Call::Check { .. } => Kind::Check,
             Call::List { .. } => Kind::List,
             Call::Search { .. } => Kind::Search,
+            Call::Bound { .. } => Kind::Bound,
         }
     }
 
     /// The lengths of the rooms that the call lends, in the order of its arguments.
     pub fn rooms(&self) -> Vec<usize> {
         match *self {
-            Call::Panel | Call::Port { .. } | Call::Bucket { .. } => vec![],
+            Call::Panel | Call::Port { .. } | Call::Bucket { .. } | Call::Bound { .. } => vec![],
             Call::Check { out, .. } => vec![out],
             Call::List { frames, slot, out, .. } => vec![frames, slot, out],
             Call::Search { frames, kept, kept_scores, .. } => vec![frames, kept, kept_scores],
@@ -96,5 +113,12 @@ pub fn filled(words: usize) -> Vec<u64> {
 
 /// How many words an answer has.
 pub fn reply_words(kind: Kind) -> usize {
-    [2, 8, 4, 3, 6, 16][kind as usize - 1]
+    match kind {
+        Kind::Panel => 2,
+        Kind::Port => 8,
+        Kind::Bucket | Kind::Bound => 4,
+        Kind::Check => 3,
+        Kind::List => 6,
+        Kind::Search => 16,
+    }
 }

@@ -95,6 +95,24 @@ pub fn of(image: &[u8], call: &Call, o: &Outcome) -> Vec<&'static str> {
             note(o.rooms[2][..=r[12] as usize].contains(&(1 << 63)), "-0.0 kept");
             note(judge::used_words(incumbent) == needs.slot, "a full slot");
         }
+        Call::Bound { counts, background } => {
+            let background = f64::from_bits(*background);
+            let above = counts.iter().filter(|c| **c as f64 > background).count();
+            note(r[2] == 0, "no bound");
+            note(r[2] == 0 && above > 1, "no bound of several counts");
+            note(counts.is_empty(), "no counts");
+            note(counts.len() > 99, "100 counts");
+            note(counts.iter().any(|c| *c as f64 == background), "a count at the background");
+            note(
+                counts.iter().any(|c| (*c as f64).next_up() == background),
+                "a background just behind a count",
+            );
+            note(counts.contains(&((1 << 53) - 1)), "the largest count");
+            note(background < f64::MIN_POSITIVE, "a subnormal background");
+            note(background > (1u64 << 53) as f64, "a background above all counts");
+            note(r[2] == 1 && above > 0 && above < counts.len(), "counts above and below");
+            note(r[2] == 1 && f64::from_bits(r[3]) < -1e300, "a bound near the lowest double");
+        }
     }
     found
 }

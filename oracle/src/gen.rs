@@ -1,7 +1,7 @@
-//! Inputs for the six calls, each determined by a seed, a kind and a number.
+//! Inputs for the calls, each determined by a seed, a kind and a number.
 use crate::{
     calls::{Call, Kind},
-    plain,
+    counts, plain,
     rules::{needs_of, BudgetWords},
     spec::{PortSpec, Spec},
 };
@@ -36,7 +36,7 @@ impl Rng {
         of[self.below(of.len() as u64) as usize].clone()
     }
     /// Small numbers more often than large ones.
-    fn skewed(&mut self, most: u64) -> u64 {
+    pub fn skewed(&mut self, most: u64) -> u64 {
         let bits = 64 - most.leading_zeros() as u64;
         let top = 1u64.checked_shl(self.range(0, bits) as u32).unwrap_or(u64::MAX);
         self.below(top.min(most) + 1)
@@ -776,6 +776,10 @@ fn walk_call(rng: &mut Rng, spec: &Spec, image: &[u8], kind: Kind, size: Size) -
 pub fn input(seed: u64, kind: Kind, index: u64, size: Size) -> Input {
     let mut rng = Rng::new(seed, kind as u64, index);
     let rng = &mut rng;
+    if kind == Kind::Bound {
+        let none = Spec { k: 0, lanes: vec![], families: vec![], ports: vec![] };
+        return Input { spec: none, edits: vec![Edit::Truncate(0)], call: counts::call(rng, size) };
+    }
     let mut spec = sound(rng, size);
     let mut edits = Vec::new();
     let harm = if kind == Kind::Panel { 12 } else { 1 };
@@ -801,6 +805,7 @@ pub fn input(seed: u64, kind: Kind, index: u64, size: Size) -> Input {
             }
         }
         Kind::List | Kind::Search => walk_call(rng, &input.spec, &input.image(), kind, size),
+        Kind::Bound => unreachable!("it takes no panel"),
     };
     input
 }
@@ -906,6 +911,7 @@ pub fn tiny_calls(spec: &Spec, kind: Kind) -> Vec<Call> {
             let budgets = tiny_budgets(&panel);
             budgets.iter().flat_map(|(b, made)| tiny_walks(kind, *b, *made, most)).collect()
         }
+        Kind::Bound => vec![],
     }
 }
 

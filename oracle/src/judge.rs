@@ -5,7 +5,7 @@ use crate::{
     rules,
 };
 use original::{
-    door::{Budget, Panel, Walk},
+    door::{self, Budget, Panel, Walk},
     genome_inference::panel_routes::Scores,
 };
 use std::{path::PathBuf, sync::OnceLock};
@@ -88,14 +88,16 @@ pub fn outcome(image: &[u8], call: &Call) -> Outcome {
 }
 
 fn answer(image: &[u8], call: &Call, rooms: &mut [Vec<u64>]) -> Vec<u64> {
-    let number = rules::panel(image);
+    let number = match call {
+        Call::Bound { counts, background } => rules::bound(counts, f64::from_bits(*background)),
+        _ => rules::panel(image),
+    };
     if number != 0 {
         return vec![number, 0];
     }
-    let (lanes, k) = rules::lanes_and_k(image);
     match call {
         Call::Panel => vec![0, 0],
-        Call::Port { lane, .. } if *lane >= lanes => vec![9, 0],
+        Call::Port { lane, .. } if *lane >= rules::lanes_and_k(image).0 => vec![9, 0],
         Call::Port { lane, cut, reverse } => {
             let port = open(image).port_at_cut(*lane as usize, *cut, *reverse).expect("at_cut");
             let Some((anchor, word)) = port else { return vec![0, 0, 0, 0] };
@@ -104,7 +106,7 @@ fn answer(image: &[u8], call: &Call, rooms: &mut [Vec<u64>]) -> Vec<u64> {
             let words = letters.chunks(8).map(|c| u64::from_le_bytes(c.try_into().unwrap()));
             [0, 0, 1, anchor].into_iter().chain(words).collect()
         }
-        Call::Bucket { word } if word.len() as u64 != k => vec![10, 0],
+        Call::Bucket { word } if word.len() as u64 != rules::lanes_and_k(image).1 => vec![10, 0],
         Call::Bucket { word } => {
             let (lo, hi) = open(image).bucket(word).expect("bucket");
             vec![0, 0, lo, hi]
@@ -171,6 +173,10 @@ fn answer(image: &[u8], call: &Call, rooms: &mut [Vec<u64>]) -> Vec<u64> {
             }
             search_reply(&walk, discarded(&walk, b, &scores))
         }
+        Call::Bound { counts, background } => match door::lower_bound(counts, f64::from_bits(*background)) {
+            None => vec![0, 0, 0, 0],
+            Some(bound) => vec![0, 0, 1, bound.to_bits()],
+        },
     }
 }
 
@@ -354,5 +360,7 @@ pub fn text(image: &[u8], call: &Call) -> String {
             text
         }
         Call::Search { .. } => spaced(&found.reply) + "\n",
+        Call::Bound { .. } if r[0] == 0 => "no bound\n".into(),
+        Call::Bound { .. } => format!("bound {:?}\n", f64::from_bits(r[1])),
     }
 }

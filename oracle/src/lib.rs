@@ -1,6 +1,7 @@
 //! The original Rust as the judge of our answers. README.md says how to use it.
 pub mod calls;
 pub mod compare;
+mod counts;
 pub mod examples;
 mod features;
 pub mod gen;

@@ -1,4 +1,4 @@
-//! The six exported calls: their C layouts, the archive's own where its features are on,
+//! The exported calls: their C layouts, the archive's own where its features are on,
 //! and one way to make a call and take down everything that it left.
 use crate::{
     calls::{filled, Call, Kind, Outcome},
@@ -81,6 +81,15 @@ pub struct SearchReply {
     pub pending: u64,
 }
 
+#[repr(C)]
+#[derive(Clone, Copy, Default)]
+pub struct BoundReply {
+    pub refusal: u64,
+    pub place: u64,
+    pub given: u64,
+    pub bound: f64,
+}
+
 pub type CheckPanel = unsafe extern "C" fn(*const u8, usize) -> PanelReply;
 pub type PortAtCut = unsafe extern "C" fn(*const u8, usize, u64, u64, bool) -> PortReply;
 pub type HubBucket = unsafe extern "C" fn(*const u8, usize, *const u8, usize) -> BucketReply;
@@ -112,6 +121,8 @@ pub type Search = unsafe extern "C" fn(
     usize,
 ) -> SearchReply;
 
+pub type LowerBound = unsafe extern "C" fn(*const u64, usize, f64) -> BoundReply;
+
 /// The calls to compare; one that is not there yet is `None`.
 #[derive(Clone, Copy, Default)]
 pub struct Calls {
@@ -121,6 +132,7 @@ pub struct Calls {
     pub check: Option<CheckAssignment>,
     pub list: Option<List>,
     pub search: Option<Search>,
+    pub bound: Option<LowerBound>,
 }
 
 /// Declares one exported call and puts it into the table, where its feature is on.
@@ -154,6 +166,7 @@ pub fn linked() -> Calls {
     linked!(calls, "search", search, panel_routes_search,
         (*const u8, usize, SearchBudget, *const f64, usize, *mut u64, usize, *mut u64, usize,
          *mut f64, usize) -> SearchReply);
+    linked!(calls, "bound", bound, panel_routes_lower_bound, (*const u64, usize, f64) -> BoundReply);
     calls
 }
 
@@ -179,6 +192,7 @@ impl Calls {
             Kind::Check => self.check.is_some(),
             Kind::List => self.list.is_some(),
             Kind::Search => self.search.is_some(),
+            Kind::Bound => self.bound.is_some(),
         }
     }
 
@@ -255,6 +269,12 @@ impl Calls {
                         r.frames,
                         r.pending,
                     ]
+                }
+                Call::Bound { counts, background } => {
+                    let own = counts.clone();
+                    let r = self.bound.unwrap()(own.as_ptr(), own.len(), f64::from_bits(*background));
+                    inputs_kept &= own == *counts;
+                    vec![r.refusal, r.place, r.given, r.bound.to_bits()]
                 }
             }
         };

@@ -77,6 +77,12 @@ fn main() {
             let (from, out) = (number(from), number(out) as usize);
             show(image, Call::List { budget, from, frames: needs.frames, slot: needs.slot, out })
         }
+        ["bound", background, ref counts @ ..] => {
+            let background = background.parse().unwrap_or_else(|_| usage());
+            let counts = counts.iter().map(|c| number(c)).collect();
+            print!("{}", judge::text(&[], &Call::Bound { counts, background: f64::to_bits(background) }));
+            true
+        }
         ["large", ports] => large::check(run.seed, number(ports), &run.subject()),
         ["image"] => {
             let job = input();

@@ -1,4 +1,4 @@
-//! Document 01 in plain safe Rust, in memory: the stand-in for the library while its
+//! Documents 01 and 02 in plain safe Rust, in memory: the stand-in for the library while its
 //! calls are missing. Ports are parsed once, the walk makes one turn of its loop for each
 //! unit and allocates nothing on the way.
 use std::ops::Range;
@@ -913,4 +913,32 @@ impl Panel {
             tally: walk.tally,
         })
     }
+}
+
+/// The next double up from one that is not below 0: its bits stand in the order of its values.
+fn outward(x: f64) -> f64 {
+    if x.is_finite() {
+        f64::from_bits(x.to_bits() + 1)
+    } else {
+        x
+    }
+}
+
+/// The lower bound: what the counts take off, kept as a sum that is not below 0. Refusal 43.
+pub fn lower_bound(counts: &[u64], background: f64) -> Result<Option<f64>, Refusal> {
+    need(43, background.is_finite() && background > 0.0 && counts.iter().all(|c| c >> 53 == 0))?;
+    let mut off = 0.0f64;
+    for &count in counts {
+        let upper = outward(count as f64);
+        if upper > background {
+            let delta = outward(upper - background);
+            let square = delta * delta;
+            let square = if cfg!(feature = "fault-step") { square } else { outward(square) };
+            off = outward(off + outward(square / background));
+            if off.is_infinite() {
+                return Ok(None);
+            }
+        }
+    }
+    Ok(Some(0.0 - off))
 }

@@ -37,6 +37,7 @@ pub fn arguments(call: &Call) -> Vec<u64> {
             let lengths = [*frames, *kept, *kept_scores, scores.len()].map(|x| x as u64);
             [&budget[..], &lengths, scores].concat()
         }
+        Call::Bound { counts, background } => [&[*background, counts.len() as u64], &counts[..]].concat(),
     }
 }
 
@@ -67,6 +68,9 @@ fn call(kind: u64, words: &[u64]) -> Option<Call> {
             kept: w[6] as usize,
             kept_scores: w[7] as usize,
         },
+        (8, [background, n, rest @ ..]) if rest.len() as u64 == *n => {
+            Call::Bound { counts: rest.to_vec(), background: *background }
+        }
         _ => return None,
     })
 }
@@ -78,7 +82,7 @@ pub fn expected(image: &[u8], call: &Call, o: &Outcome) -> Vec<u64> {
         return words;
     }
     match call {
-        Call::Panel | Call::Port { .. } | Call::Bucket { .. } => {}
+        Call::Panel | Call::Port { .. } | Call::Bucket { .. } | Call::Bound { .. } => {}
         Call::Check { .. } => words.extend(&o.rooms[0][..o.reply[2] as usize]),
         Call::List { budget, .. } => {
             let needed = rules::needs(image, budget).frames;

@@ -1,5 +1,5 @@
-//! What the original has no numbers for, read from document 01 as plainly as possible:
-//! refusals 1 to 13, 16, 21 and 22, and the rooms. Whole numbers are u128, so that no sum
+//! What the original has no numbers for, read from documents 01 and 02 as plainly as possible:
+//! refusals 1 to 13, 16, 21, 22 and 43, and the rooms. Whole numbers are u128, so that no sum
 //! of u64 words can wrap; nothing here is shared with the stand-in.
 use std::collections::HashSet;
 
@@ -232,4 +232,11 @@ pub fn job(bytes: &[u8]) -> Result<Job<'_>, u64> {
         budget: words(budget).try_into().unwrap_or(DEFAULT_BUDGET),
         scores: words(scores).into_iter().map(f64::from_bits).collect(),
     })
+}
+
+/// Refusal 43 of the lower bound, or 0.
+pub fn bound(counts: &[u64], background: f64) -> u64 {
+    let counts_wrong = counts.iter().any(|&c| u128::from(c) >= 1 << 53);
+    let background_right = background.is_finite() && background > 0.0;
+    43 * u64::from(counts_wrong || !background_right)
 }

@@ -281,6 +281,38 @@ fn all_units(seed: u64) -> (Spec, u64, u64) {
     best.expect("some small panel shows every kind of unit")
 }
 
+/// The inputs of `bound/specs/Try.antt`.
+fn bounds() -> Vec<Call> {
+    const TOP: u64 = (1 << 53) - 1;
+    let (inf, least) = (f64::INFINITY, f64::from_bits(1));
+    let cases: [(f64, &[u64]); 21] = [
+        (0.5, &[]),
+        (2.5, &[3, 0, 7, 12]),
+        (3.0, &[4]),
+        (0.1, &[1]),
+        (4.0, &[4]),
+        (4.0, &[3]),
+        (f64::from_bits(1f64.to_bits() + 1), &[1]),
+        (1.0, &[TOP, TOP]),
+        (f64::MAX, &[TOP]),
+        (least, &[5, 1]),
+        (f64::MIN_POSITIVE, &[1]),
+        (least, &[0]),
+        (6e-277, &[TOP, TOP, 1]),
+        (1.0, &[1, TOP + 1]),
+        (least, &[5, TOP + 1]),
+        (0.0, &[]),
+        (-0.0, &[]),
+        (-1.0, &[1]),
+        (inf, &[1]),
+        (-inf, &[]),
+        (f64::NAN, &[1]),
+    ];
+    cases
+        .map(|(background, counts)| Call::Bound { counts: counts.into(), background: background.to_bits() })
+        .into()
+}
+
 fn sample(seed: u64, kind: Kind) -> Vec<Chosen> {
     let mut all = Vec::new();
     let e = Spec::panel_e();
@@ -315,6 +347,10 @@ fn sample(seed: u64, kind: Kind) -> Vec<Chosen> {
             let steps = series(&spec.image(), units, 12, &scores, kind).into_iter();
             all.extend(steps.step_by(if kind == Kind::List { 3 } else { 1 }));
             all.extend(from_random(seed, kind, 2, 40_000));
+        }
+        Kind::Bound => {
+            all.extend(bounds().into_iter().map(|call| chosen(vec![], call)));
+            all.extend(from_random(seed, kind, 4, 8000));
         }
     }
     all

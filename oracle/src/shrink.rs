@@ -1,6 +1,6 @@
 //! Smaller inputs that still differ: one change at a time, as long as one helps.
 use crate::{
-    calls::Call,
+    calls::{Call, Kind},
     gen::Input,
     spec::{PortSpec, Spec},
 };
@@ -304,6 +304,34 @@ fn calls(call: &Call) -> Vec<Call> {
                 })
             });
         }
+        Call::Bound { counts, background } => {
+            for fewer in thinned(counts) {
+                with(&|c| {
+                    if let Call::Bound { counts, .. } = c {
+                        counts.clone_from(&fewer)
+                    }
+                });
+            }
+            for i in 0..counts.len().min(40) {
+                for x in below(counts[i]) {
+                    with(&|c| {
+                        if let Call::Bound { counts, .. } = c {
+                            counts[i] = x
+                        }
+                    });
+                }
+            }
+            let round = |bits: u32| *background >> bits << bits;
+            for x in [1f64.to_bits(), round(48), round(32), round(16)] {
+                if x.count_ones() < background.count_ones() {
+                    with(&|c| {
+                        if let Call::Bound { background, .. } = c {
+                            *background = x
+                        }
+                    });
+                }
+            }
+        }
     }
     out
 }
@@ -375,9 +403,11 @@ pub fn smallest(input: &Input, time: Duration, mut differs: impl FnMut(&Input) -
     let mut best = input.clone();
     'again: loop {
         let mut next: Vec<Input> = Vec::new();
-        next.extend(both(&best));
-        next.extend(thinned(&best.edits).into_iter().map(|edits| Input { edits, ..best.clone() }));
-        next.extend(specs(&best.spec).into_iter().map(|spec| Input { spec, ..best.clone() }));
+        if best.call.kind() != Kind::Bound {
+            next.extend(both(&best));
+            next.extend(thinned(&best.edits).into_iter().map(|edits| Input { edits, ..best.clone() }));
+            next.extend(specs(&best.spec).into_iter().map(|spec| Input { spec, ..best.clone() }));
+        }
         next.extend(calls(&best.call).into_iter().map(|call| Input { call, ..best.clone() }));
         for candidate in next {
             if Instant::now() > end {

@@ -1,7 +1,7 @@
-//! The plain Rust behind the six C signatures, for comparing before the library has them.
+//! The plain Rust behind the C signatures, for comparing before the library has them.
 use crate::{
     library::*,
-    plain::{Budget, Panel, Refusal},
+    plain::{self, Budget, Panel, Refusal},
 };
 use std::slice::{from_raw_parts as read, from_raw_parts_mut as lend};
 
@@ -13,6 +13,7 @@ pub fn calls() -> Calls {
         check: Some(check_assignment),
         list: Some(list),
         search: Some(search),
+        bound: Some(lower_bound),
     }
 }
 
@@ -149,5 +150,13 @@ unsafe extern "C" fn search(
             frames: f.frames,
             pending: u64::from(f.pending),
         },
+    }
+}
+
+unsafe extern "C" fn lower_bound(counts: *const u64, len: usize, background: f64) -> BoundReply {
+    match plain::lower_bound(read(counts, len), background) {
+        Err(r) => refused!(BoundReply, r),
+        Ok(None) => BoundReply::default(),
+        Ok(Some(bound)) => BoundReply { given: 1, bound, ..Default::default() },
     }
 }

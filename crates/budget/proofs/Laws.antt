@@ -1,4 +1,4 @@
--- Floats between the infinities, the most paths of a family, and sizes that fit.
+-- The most paths of a family, and sizes that fit.
 use Prim.Native.Nat.{ℕ, zero, suc, _+_, _*_, _≤_, _<_, max}
 use native.Mathlib.Nat.{max-zero, zero-max, suc-max-suc, max-le, mul-le-mul-right}
 use native.Mathlib.Omega.{arith}
@@ -28,22 +28,6 @@ use Rattle.search.specs.declared.SearchBudget.{SearchBudget}
 use Rattle.search.specs.Budget.{mostFrontier, mostOptima, widthOk, budgetOk, budgetInBounds, budgetRefusal}
 use Rattle.search.specs.Rooms.{mostPaths, widthFor, slotWidth, framesNeeded, keptNeeded, scoresNeeded, roomsRefusal, listRoomsRefusal}
 use Rattle.budget.specs.Inner.{Bounded, mostWidth, roomsBy, listRoomsBy}
-
--- ---- between the infinities
-
-pub below-top : (x : Float) → Ieee.lt (inf true) x ≡ true → Ieee.lt x (inf false) ≡ finite x
-unfolding Ieee.lt
-below-top nan h = refl
-below-top (inf true) h = sym h
-below-top (inf false) h = refl
-below-top (fin s m e) h = refl
-
-pub at-bottom : (x : Float) → Ieee.lt (inf true) x ≡ false → false ≡ finite x
-unfolding Ieee.lt
-at-bottom nan h = refl
-at-bottom (inf true) h = refl
-at-bottom (inf false) h = refl
-at-bottom (fin s m e) h = sym h
 
 -- ---- the most of a list of numbers
 

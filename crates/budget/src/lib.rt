@@ -1,7 +1,6 @@
 // The budgets held against their bounds, and the rooms against what a search needs of them: refusals 11 to 13.
 ghost use mathlib.Core.Path.{_≡_};
 ghost use Prim.Native.Nat.{_≤_, max};
-ghost use lib.Ieee.Scale.{finite};
 ghost use Rattle.evaluate.specs.Refusals.{unless};
 ghost use Rattle.image.specs.Image.{families};
 ghost use Rattle.image.specs.Inner.{Grouped};
@@ -18,20 +17,15 @@ pub const OPTIMA: u64 = 1024;
 // The words of a frame.
 pub const FRAME: usize = 10;
 
-// Neither an infinity nor a NaN: strictly between the infinities.
-pub fn is_finite(x: f64) -> bool
-    ensures { λ r. ⌜ r ≡ finite x ⌝ }
-{
-    let top = f64::from_bits(0x7ff0_0000_0000_0000);
-    let bottom = f64::from_bits(0xfff0_0000_0000_0000);
-    if bottom < x { x < top } else { false }
-}
-
 // A tie width: finite and not below 0; -0.0 passes.
 pub fn is_width(x: f64) -> bool
     ensures { λ r. ⌜ r ≡ widthOk x ⌝ }
 {
-    if is_finite(x) { 0.0 <= x } else { false }
+    if doubles::is_finite(x) {
+        0.0 <= x
+    } else {
+        false
+    }
 }
 
 fn refusal_unless(passed: bool, number: u64, later: u64) -> u64

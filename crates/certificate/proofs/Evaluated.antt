@@ -16,7 +16,7 @@ use Rattle.search.specs.Run.{walk}
 use Rattle.search.specs.Keep.{Kept, nothing, Evaluated, scoreOf, sameAssignment, sameEvaluated, keepAll, evaluated}
 use Rattle.search.specs.Search.{walked, keptOf, searchedAs, searchFrom, search}
 use Rattle.search.proofs.Same.{assignments-decide}
-use Rattle.scoring.proofs.Order.{is-T}
+use Rattle.doubles.proofs.Order.{is-T}
 use Rattle.scoring.proofs.Rule.{Finite, champion, champion-one, incumbent, tied-from}
 use Rattle.certificate.specs.Terms.{FiniteScore, evaluations, handedOver, keptBy, assignmentOf}
 

@@ -20,7 +20,7 @@ use Rattle.search.specs.Keep.{Kept, nothing, Evaluated, scoreOf, sameEvaluated,
 use Rattle.search.specs.Answers.{Rooms, searchAnswer}
 use Rattle.evaluate.proofs.Lists.{keep-only, keep-in, pairs-keep, pairs-through, each-mem, mem-map}
 use Rattle.enumeration.proofs.Suffice.{natives-length}
-use Rattle.scoring.proofs.Order.{is-T, lt→not-le}
+use Rattle.doubles.proofs.Order.{is-T, lt→not-le}
 use Rattle.scoring.proofs.Rule.{Finite, champion, champion-least, champion-one, scoring, firsts}
 use Rattle.scoring.proofs.Firsts.{firsts-only, firsts-all, firsts-once, firsts-ahead, Ahead, Other}
 use Rattle.certificate.specs.Terms.{Admitted, Exhausted, Scores, evaluations, handedOver, keptBy, NativesThenLegal, Least, Ties, NoTwo, Earlier, assignmentOf}

@@ -5,6 +5,8 @@ use mathlib.Core.Bool.{Bool}
 use mathlib.Core.List.{List}
 use lib.ListN.{length}
 use lib.Ieee.{Float}
+use Rattle.bound.specs.declared.BoundReply.{BoundReply}
+use Rattle.bound.specs.Bound.{lowerBound}
 use Rattle.evaluate.specs.declared.AssignmentReply.{AssignmentReply}
 use Rattle.evaluate.specs.Check.{checkAnswer, checkOut}
 use Rattle.graph.specs.Check.{checked}
@@ -51,3 +53,7 @@ search-one s b xs rooms q r = one
 
 pub search-rooms-one : (s : List ℕ) (b : SearchBudget) (xs : List Float) (rooms x y : Rooms) → x ≡ searchRooms s b xs rooms → y ≡ searchRooms s b xs rooms → x ≡ y
 search-rooms-one s b xs rooms x y = one
+
+-- the reply of the lower bound
+pub bound-one : (counts : List ℕ) (background : Float) (q r : BoundReply) → q ≡ lowerBound counts background → r ≡ lowerBound counts background → q ≡ r
+bound-one counts background q r = one

@@ -4,6 +4,8 @@ ghost use Rattle.graph.specs.Check.{checked};
 ghost use Rattle.graph.specs.Lookups.{portAnswer, bucketAnswer};
 ghost use lib.ListN.{length};
 ghost use Rattle.evaluate.specs.Check.{checkAnswer, checkOut};
+ghost use Rattle.bound.specs.Bound.{lowerBound};
+ghost use Rattle.bound.specs.Bounded.{BoundHolds};
 ghost use Rattle.search.specs.Answers.{Rooms, searchAnswer, searchRooms, ListRooms, listAnswer, listRooms};
 ghost use Rattle.panel_routes.specs.Replies.{panelReply, portReply, bucketReply};
 
@@ -167,4 +169,13 @@ pub extern "C" fn panel_routes_search(
     ensures { λ r. ⌜ _≡_ {A = Rooms} (record { frames = now (frames .exit); kept = now (kept .exit); scores = now («kept_scores» .exit) }) (searchRooms (now (image .entry)) budget (now (scores .entry)) (record { frames = now (frames .entry); kept = now (kept .entry); scores = now («kept_scores» .entry) })) ⌝ }
 {
     searching::search(image, budget, scores, frames, kept, kept_scores)
+}
+
+// Of counts and a background, with no panel: the bound, and what it is a bound of.
+#[no_mangle]
+pub extern "C" fn panel_routes_lower_bound(counts: &[u64], background: f64) -> bound::BoundReply
+    ensures { λ r. ⌜ r ≡ lowerBound (now (counts .entry)) background ⌝ }
+    ensures { λ r. ⌜ BoundHolds (now (counts .entry)) background r ⌝ }
+{
+    bound::lower_bound(counts, background)
 }

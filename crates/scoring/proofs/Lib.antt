@@ -1,5 +1,3 @@
-pub mod Order
-pub mod Sub
 pub mod Rule
 pub mod Firsts
 pub mod Width

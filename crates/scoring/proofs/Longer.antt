@@ -14,8 +14,8 @@ use Rattle.ground.specs.Lists.{pick, keep, consIf}
 use Rattle.evaluate.specs.Properties.{Each}
 use Rattle.evaluate.proofs.Lists.{append-each, each-append}
 use Rattle.search.specs.Keep.{Kept, nothing, tiedTo, lowers, near, tiesTo, has, adding, replaced, lowered, added, keepOne, keepAll}
-use Rattle.scoring.proofs.Order.{is-T, lt→le, lt-trans-float}
-use Rattle.scoring.proofs.Sub.{fin-refl, finite-real}
+use Rattle.doubles.proofs.Order.{is-T, lt→le, lt-trans-float}
+use Rattle.doubles.proofs.Sub.{fin-refl, finite-real}
 use Rattle.scoring.proofs.Rule.{Finite, lower, ties-append, ties-ties, finite-lower, champion, champion-below, incumbent, stays-all}
 
 -- ---- the incumbent

@@ -13,8 +13,8 @@ use Rattle.ground.specs.Lists.{pick, any, keep, consIf}
 use Rattle.evaluate.specs.Properties.{Each}
 use Rattle.evaluate.proofs.Lists.{each-append, keep-only}
 use Rattle.search.specs.Keep.{Kept, nothing, tiedTo, lowers, near, tiesTo, has, adding, replaced, lowered, added, keepOne, keepAll}
-use Rattle.scoring.proofs.Order.{lt→le, not-lt→le, le-trans-float}
-use Rattle.scoring.proofs.Sub.{fin-refl, finite-real, stays-over}
+use Rattle.doubles.proofs.Order.{lt→le, not-lt→le, le-trans-float}
+use Rattle.doubles.proofs.Sub.{fin-refl, finite-real, stays-over}
 
 module _ {A : Type 0} (score : A → Float) where
   abbrev pub Finite : A → Type 0

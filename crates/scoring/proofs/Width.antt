@@ -9,7 +9,7 @@ use lib.Ieee as Ieee
 use lib.Ieee.{Float, fin, inf, nan, binary64}
 use Rattle.ground.specs.Lists.{pick, keep}
 use Rattle.search.specs.Keep.{Kept, lowers, near, tiesTo, has, adding, replaced, lowered, added, keepOne, keepAll}
-use Rattle.scoring.proofs.Order.{is-T, eq→le, le-trans-float, eq→EQ, EQ→eq}
+use Rattle.doubles.proofs.Order.{is-T, eq→le, le-trans-float, eq→EQ, EQ→eq}
 
 eq-sym : (x y : Float) → T (Ieee.eq x y) → T (Ieee.eq y x)
 unfolding Ieee.eq

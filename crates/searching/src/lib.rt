@@ -58,7 +58,7 @@ fn score_refusal(scores: &[f64], n: usize) -> u64
     ensures { λ r. ⌜ r ≡ scoreRefusal (now (scores .entry)) n ⌝ }
 {
     if n < scores.len() {
-        if budget::is_finite(scores[n]) { 0 } else { 15 }
+        if doubles::is_finite(scores[n]) { 0 } else { 15 }
     } else {
         14
     }

@@ -15,6 +15,7 @@ use crate::{
 };
 use serde_json::Value;
 use std::{
+    cell::RefCell,
     fs, io,
     path::{Path, PathBuf},
 };
@@ -250,6 +251,29 @@ impl Panel {
             routes: given,
         })
     }
+}
+
+/// One lane of one base: an Evaluator wants a panel, which the lower bound does not look at.
+const LEAST_PANEL: [u64; 13] = [1, 1, 0, 0, 0, 80, 104, 104, 104, 104, 1, 0, 0];
+
+fn evaluator() -> RefCell<evaluate::Evaluator<'static>> {
+    let image: Vec<u8> = LEAST_PANEL.iter().flat_map(|w| w.to_le_bytes()).collect();
+    let panel = Box::leak(Box::new(Panel::open(&image, None).expect("a sound panel opens")));
+    RefCell::new(
+        evaluate::Evaluator::unscored(&panel.root, &panel.graph, &panel.syng).expect("its ports open"),
+    )
+}
+
+thread_local! {
+    static OBSERVED: RefCell<evaluate::Evaluator<'static>> = evaluator();
+}
+
+/// Of any counts and any background, of which the original's `Evaluator::new` takes some alone.
+pub fn lower_bound(counts: &[u64], background: f64) -> Option<f64> {
+    OBSERVED.with(|e| {
+        e.borrow_mut().observe(counts, background);
+        e.borrow().lower_bound()
+    })
 }
 
 /// Keeps bytes as a file and seals them; the original's own `verify` is run against it.

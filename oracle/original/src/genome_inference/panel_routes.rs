@@ -84,6 +84,12 @@ pub mod evaluate {
                 graph_checksum: graph.digest()?,
             })
         }
+
+        /// What `lower_bound` reads: counts, which it takes in this order, and the background.
+        pub fn observe(&mut self, counts: &[u64], background: f64) {
+            self.observed = (0..).zip(counts).map(|(i, &c)| ([i, 0, 0], c)).collect();
+            self.background = background;
+        }
     }
 }
 

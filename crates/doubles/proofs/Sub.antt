@@ -11,7 +11,7 @@ use lib.Ieee.{Float, nan, inf, fin, Format, binary32, binary64, prec, emax, low,
 use lib.Ieee.Order.{round-mono}
 use lib.Ieee.Scale.{finite}
 use lib.Ieee.Positive.{den, den-pos}
-use Rattle.scoring.proofs.Order.{plus, less, pp, nn, LE, le→LE, LE→le, le-trans-float, neg-anti}
+use Rattle.doubles.proofs.Order.{plus, less, pp, nn, LE, le→LE, LE→le, le-trans-float, neg-anti}
 
 -- ---- `round` at the other sign
 odd-neg : (d q k l : ℕ) → odd d true q k l ≡ neg (odd d false q k l)

@@ -1,0 +1,2 @@
+pub mod NextDouble
+pub mod Try
