@@ -33,6 +33,9 @@ typedef struct {
     uint64_t optima, discarded, frames, pending;
 } search_reply;
 
+/* given 1: a bound, 0: none, since the running bound stopped being finite */
+typedef struct { uint64_t refusal, place, given; double bound; } bound_reply;
+
 panel_reply  panel_routes_check_panel(const uint8_t *image, size_t image_len);
 port_reply   panel_routes_port_at_cut(const uint8_t *image, size_t image_len, uint64_t lane, uint64_t cut, bool reverse);
 bucket_reply panel_routes_hub_bucket(const uint8_t *image, size_t image_len, const uint8_t *word, size_t word_len);
@@ -41,6 +44,9 @@ list_reply   panel_routes_list(const uint8_t *image, size_t image_len, search_bu
                                uint64_t *slot, size_t slot_len, uint64_t *out, size_t out_len);
 search_reply panel_routes_search(const uint8_t *image, size_t image_len, search_budget budget, const double *scores, size_t scores_len,
                                  uint64_t *frames, size_t frames_len, uint64_t *kept, size_t kept_len, double *kept_scores, size_t kept_scores_len);
+/* at most minus the sum of (c - background)^2 / background over the counts c above the background; refusal 43: a count of 2^53 or more, or a
+   background not finite or not above 0 */
+bound_reply  panel_routes_lower_bound(const uint64_t *counts, size_t counts_len, double background);
 
 #ifdef __cplusplus
 }

@@ -4,7 +4,7 @@ mod agree;
 mod table;
 mod tuned;
 
-use oracle::{large, plain, spec::Spec};
+use oracle::{gen::Rng, large, plain, spec::Spec};
 use original::{door, genome_inference::panel_routes::Scores};
 use panel_routes::{Assignment, Panel, SearchBudget, Segment};
 use std::{env, fs, path::Path, process::ExitCode, time::Instant};
@@ -105,7 +105,7 @@ fn walk(name: &str, spec: &Spec, work: u64, with_original: bool, folder: &Path) 
             assert_eq!((walk.work, walk.donors), (found.tally.work, found.tally.donors));
             time
         };
-        row = row.original(original(None), original(Some(folder)));
+        row = row.original(original(None), Some(original(Some(folder))));
     }
     row
 }
@@ -154,6 +154,20 @@ fn assignment_check(name: &str, spec: &Spec, pieces: u64) -> Row {
     Row::new(format!("assignment check, {name}, {pieces} segments"), ours).tuned(tuned)
 }
 
+/// Counts from the least on, as many different ones as twice the background.
+fn lower_bound(name: &str, n: u64, background: f64, least: u64) -> Row {
+    let mut rng = Rng::new(SEED, 12, n);
+    let counts: Vec<u64> = (0..n).map(|_| least + rng.below(2 * background as u64)).collect();
+    door::observe(&counts, background);
+    let (ours, bound, tuned, same) = side_by_side(
+        || panel_routes::lower_bound(&counts, background).unwrap(),
+        || tuned::lower_bound(&counts, background).unwrap(),
+    );
+    let (original, own) = timed(door::lower_bound);
+    assert!(bound.is_some() && bound == same && bound == own);
+    Row::new(format!("lower bound, {name}"), ours).tuned(tuned).original(original, None)
+}
+
 fn run(folder: &Path) {
     let mut table = Table::begin();
     let pools: Vec<(String, Spec)> =
@@ -173,6 +187,8 @@ fn run(folder: &Path) {
     table.put(panel_check("1,000,000 ports", &wide));
     table.put(walk("walk, 1,000,000 ports", &wide, 300_000, true, folder));
     table.put(assignment_check("1,000,000 ports", &wide, 1));
+    table.put(lower_bound("1,000,000 counts, all above", 1_000_000, 50.0, 100));
+    table.put(lower_bound("1,000,000 counts, half above", 1_000_000, 50.0, 0));
 }
 
 fn main() -> ExitCode {

@@ -6,8 +6,8 @@ pub struct Row {
     name: String,
     ours: f64,
     tuned: Option<f64>,
-    /// In memory, with files.
-    original: Option<(f64, f64)>,
+    /// In memory, and with files.
+    original: Option<(f64, Option<f64>)>,
 }
 
 impl Row {
@@ -19,7 +19,7 @@ impl Row {
         Self { tuned: Some(seconds), ..self }
     }
 
-    pub fn original(self, memory: f64, files: f64) -> Self {
+    pub fn original(self, memory: f64, files: Option<f64>) -> Self {
         Self { original: Some((memory, files)), ..self }
     }
 }
@@ -51,7 +51,7 @@ impl Table {
     }
 
     pub fn put(&mut self, row: Row) {
-        let (memory, files) = (row.original.map(|o| o.0), row.original.map(|o| o.1));
+        let (memory, files) = (row.original.map(|o| o.0), row.original.and_then(|o| o.1));
         let others = [row.tuned, memory, files];
         let times: Vec<String> = [Some(row.ours)].into_iter().chain(others).map(milliseconds).collect();
         let ratios = others.map(|o| ratio(row.ours, o));

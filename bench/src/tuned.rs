@@ -724,3 +724,21 @@ impl Panel {
         Ok(Listing { status, written, words: words as u64, evaluations: walk.tally.evaluations })
     }
 }
+
+/// `lower_bound` of evaluate.rs over a slice in the place of its map, behind refusal 43.
+pub fn lower_bound(counts: &[u64], background: f64) -> Result<Option<f64>, Refused> {
+    need(background.is_finite() && background > 0.0 && counts.iter().all(|c| *c < 1 << 53), 43)?;
+    let mut bound = 0.0f64;
+    for &c in counts {
+        let upper = (c as f64).next_up();
+        if upper > background {
+            let delta = (upper - background).next_up();
+            let term = ((delta * delta).next_up() / background).next_up();
+            bound = (bound - term).next_down();
+            if !bound.is_finite() {
+                return Ok(None);
+            }
+        }
+    }
+    Ok(Some(bound))
+}

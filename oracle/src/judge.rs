@@ -173,10 +173,13 @@ fn answer(image: &[u8], call: &Call, rooms: &mut [Vec<u64>]) -> Vec<u64> {
             }
             search_reply(&walk, discarded(&walk, b, &scores))
         }
-        Call::Bound { counts, background } => match door::lower_bound(counts, f64::from_bits(*background)) {
-            None => vec![0, 0, 0, 0],
-            Some(bound) => vec![0, 0, 1, bound.to_bits()],
-        },
+        Call::Bound { counts, background } => {
+            door::observe(counts, f64::from_bits(*background));
+            match door::lower_bound() {
+                None => vec![0, 0, 0, 0],
+                Some(bound) => vec![0, 0, 1, bound.to_bits()],
+            }
+        }
     }
 }
 

@@ -65,6 +65,14 @@ pub struct SearchReply {
     pub pending: u64,
 }
 
+#[repr(C)]
+struct BoundReply {
+    refusal: u64,
+    place: u64,
+    given: u64,
+    bound: f64,
+}
+
 extern "C" {
     fn panel_routes_check_panel(image: *const u8, image_len: usize) -> PanelReply;
     fn panel_routes_port_at_cut(
@@ -113,6 +121,7 @@ extern "C" {
         kept_scores: *mut f64,
         kept_scores_len: usize,
     ) -> SearchReply;
+    fn panel_routes_lower_bound(counts: *const u64, counts_len: usize, background: f64) -> BoundReply;
 }
 
 fn given<T>(refusal: u64, place: u64, answer: T) -> Result<T, Refusal> {
@@ -207,6 +216,11 @@ pub fn search(
         )
     };
     given(r.refusal, r.place, r)
+}
+
+pub fn lower_bound(counts: &[u64], background: f64) -> Result<Option<f64>, Refusal> {
+    let r = unsafe { panel_routes_lower_bound(counts.as_ptr(), counts.len(), background) };
+    given(r.refusal, r.place, (r.given == 1).then_some(r.bound))
 }
 
 #[cfg(test)]

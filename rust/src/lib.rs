@@ -64,6 +64,7 @@
 //! The calls keep their tables on the stack, up to half a MiB. On a thread with a smaller stack
 //! than that they end at its guard page, as too deep a recursion in Rust does.
 
+mod bound;
 mod builder;
 mod evaluate;
 mod exports;
@@ -75,6 +76,7 @@ mod search;
 mod sheet;
 mod storage;
 
+pub use bound::lower_bound;
 pub use builder::{BuildError, PanelBuilder};
 pub use evaluate::{Assignment, Segment};
 pub use graph::{Lane, Panel};

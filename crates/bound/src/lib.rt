@@ -4,7 +4,7 @@ ghost use mathlib.Core.Path.{_≡_};
 ghost use mathlib.Core.Bool.{true};
 ghost use Prim.Native.Nat.{_^_, _<_};
 ghost use lib.Ieee.Positive.{positive};
-ghost use Rattle.bound.specs.Bound.{upper, term, after, zero64, some, noBound, countsOk, boundFrom, lowerBound};
+ghost use Rattle.bound.specs.Bound.{upper, term, after, zero64, noBound, countsOk, boundFrom, lowerBound};
 ghost use Rattle.bound.specs.Bounded.{BoundHolds};
 
 // Refusal 43, or 0; given 1: a bound, 0: none. Fields that an answer does not use are 0.

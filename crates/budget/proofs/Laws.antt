@@ -8,9 +8,6 @@ use mathlib.Core.List.{List, [], _∷_}
 use lib.Dec.{leb, ltb}
 use lib.ListN.{length, drop, getD, length-drop, drop-of-length-le}
 use lib.Seq.{length-take-le}
-use lib.Ieee as Ieee
-use lib.Ieee.{Float, nan, inf, fin}
-use lib.Ieee.Scale.{finite}
 use borrow.Author.Tests.{leb-true, ltb-true}
 use mir.Val.{Fits}
 use mir.Syntax.{w64}

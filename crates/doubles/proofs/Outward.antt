@@ -5,7 +5,7 @@ use native.Mathlib.Nat.{le-of-eq, le-of-suc-le-suc, lt-irrefl, lt-of-lt-of-le, l
 use native.Mathlib.Omega.{arith}
 use mathlib.Core.Bool.{Bool, true, false, not, _&&_, cond}
 use lib.IntN.{ℤ, pos, negsuc}
-use lib.Dec.{T, leb, ltb, eqb, ltb→lt, leb→le, eqb→eq, nltb→le, T-not}
+use lib.Dec.{T, leb, ltb, eqb, ltb→lt, leb→le, nltb→le, T-not}
 use lib.Pow.{pow-add, pow-pos, pow-lt}
 use lib.Ieee.{Float, nan, inf, fin, Format, binary64, prec, emax, low, up, down, odd, units, round, fits, lt, toBits, ofBits, isNan}
 use lib.Ieee.Digits.{back}

@@ -2,10 +2,10 @@
 use Prim.Native.Nat.{ℕ, _+_, _*_, _%_, _≤_, _<_}
 use native.Mathlib.Omega.{arith}
 use native.Mathlib.Nat.{mul-le-mul-right}
-use mathlib.Core.Path.{_≡_, sym, _∙_, subst}
-use mathlib.Core.Bool.{Bool, true, not, true≢false}
+use mathlib.Core.Path.{sym, _∙_, subst}
+use mathlib.Core.Bool.{Bool, not}
 use lib.Dec.{T}
-use lib.Ieee.{Float, nan, inf, fin, binary64, nanBits, isNan, eq}
+use lib.Ieee.{binary64, nanBits}
 use lib.Ieee.Bits.{nanBits-above}
 use borrow.Author.Tests.{le-ltb}
 use borrow.Author.Needs.{fits-under}
@@ -18,12 +18,6 @@ real-bits b h = subst (λ (t : Bool). T (not t)) (sym (nanBits-above binary64 b 
 pub top-bits : T (not (nanBits binary64 0x7ff0_0000_0000_0000))
 unfolding nanBits
 top-bits = tt
-
-pub same-real : (x : Float) → eq x x ≡ true → T (not (isNan x))
-unfolding eq isNan
-same-real nan h = absurd (true≢false (sym h))
-same-real (inf s) h = tt
-same-real (fin s m e) h = tt
 
 pub kept-fits : (optima slot : ℕ) → optima ≤ 1024 → slot ≤ 4162 → Fits w64 ((optima + 2) * slot)
 kept-fits optima slot a b =

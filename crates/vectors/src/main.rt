@@ -2,6 +2,7 @@
 // program prints, and says of each kind how many agreed and how many did not.
 
 mod assignments;
+mod bounds;
 mod listings;
 mod lookups;
 mod printed;
@@ -64,6 +65,7 @@ fn answered(h: Head, image: &[u8], body: &[u8]) -> bool {
         5 => listings::is_list(image, body, arguments, at, end),
         6 => searches::is_search(image, body, arguments, at, end),
         7 => printed::is_job(image, body, at, end),
+        8 => bounds::is_bound(body, arguments, at, end),
         _ => false,
     }
 }
@@ -77,6 +79,7 @@ struct Sheet {
     list: Score,
     search: Score,
     job: Score,
+    bound: Score,
     unknown: Score,
 }
 
@@ -104,6 +107,9 @@ impl Sheet {
             }
             7 => {
                 s.job = s.job.counted(is_same);
+            }
+            8 => {
+                s.bound = s.bound.counted(is_same);
             }
             _ => {
                 s.unknown = s.unknown.counted(is_same);
@@ -176,6 +182,7 @@ fn main() {
         list: none,
         search: none,
         job: none,
+        bound: none,
         unknown: none,
     };
     let mut turns: u64 = 1000000;
@@ -198,5 +205,6 @@ fn main() {
     print(b"list ", sheet.list);
     print(b"search ", sheet.search);
     print(b"job ", sheet.job);
+    print(b"bound ", sheet.bound);
     print(b"unknown ", sheet.unknown);
 }

@@ -268,12 +268,13 @@ thread_local! {
     static OBSERVED: RefCell<evaluate::Evaluator<'static>> = evaluator();
 }
 
-/// Of any counts and any background, of which the original's `Evaluator::new` takes some alone.
-pub fn lower_bound(counts: &[u64], background: f64) -> Option<f64> {
-    OBSERVED.with(|e| {
-        e.borrow_mut().observe(counts, background);
-        e.borrow().lower_bound()
-    })
+/// What the next `lower_bound` is of: any counts and any background.
+pub fn observe(counts: &[u64], background: f64) {
+    OBSERVED.with(|e| e.borrow_mut().observe(counts, background));
+}
+
+pub fn lower_bound() -> Option<f64> {
+    OBSERVED.with(|e| e.borrow().lower_bound())
 }
 
 /// Keeps bytes as a file and seals them; the original's own `verify` is run against it.

@@ -1,7 +1,7 @@
 //! The original's recorded answers (oracle/recorded), asked for through the crate.
 //! Records about rooms that the crate never lends (13, 21) are passed over.
 use panel_routes::{
-    Assignment, Frame, Job, Panel, PanelBuilder, Refusal, Scored, SearchBudget, Sheet, Status,
+    lower_bound, Assignment, Frame, Job, Panel, PanelBuilder, Refusal, Scored, SearchBudget, Sheet, Status,
 };
 use std::{fs, path::Path};
 
@@ -191,6 +191,14 @@ fn searches() {
         let scores: Vec<f64> = r.arguments[9..].iter().map(|s| f64::from_bits(*s)).collect();
         let sheet = Panel::new(&r.image[..])?.search_with_scores(budget(&r.arguments), &scores)?;
         Ok(sheet_words(&sheet))
+    });
+}
+
+#[test]
+fn bounds() {
+    replay("bound.bin", &[], |r| {
+        let bound = lower_bound(&r.arguments[2..], f64::from_bits(r.arguments[0]))?;
+        Ok(bound.map_or(vec![0, 0], |b| vec![1, b.to_bits()]))
     });
 }
 

@@ -1,7 +1,7 @@
-//! Every refusal of document 01's table that the crate's types allow, on panel E.
+//! Every refusal of document 01's table that the crate's types allow, on panel E; and 02's.
 //! 13 and 21 cannot be reached through them; they are tested beside the exported calls.
 use crate::panel_e::{builder_e, panel_e, refused, SCORES};
-use panel_routes::{Assignment, Job, Panel, SearchBudget};
+use panel_routes::{lower_bound, Assignment, Job, Panel, SearchBudget};
 
 /// Byte offsets in panel E's image.
 const LANES: usize = 80;
@@ -192,4 +192,24 @@ fn the_message_is_the_documents() {
     assert_eq!(refusal.to_string(), "refused 14 3: an evaluation has no score in the list");
     let error: Box<dyn std::error::Error> = Box::new(refusal);
     assert!(error.to_string().starts_with("refused 14 3"));
+}
+
+#[test]
+fn bounds() {
+    let top = 1 << 53;
+    for counts in [&[top][..], &[1, top + 1, 2], &[u64::MAX], &[5, top]] {
+        for background in [1.0, f64::from_bits(1)] {
+            assert_eq!(refused(lower_bound(counts, background)), Some((43, 0)));
+        }
+    }
+    for background in
+        [0.0, -0.0, -1.0, -f64::from_bits(1), f64::INFINITY, -f64::INFINITY, f64::NAN, -f64::NAN]
+    {
+        for counts in [&[][..], &[3]] {
+            assert_eq!(refused(lower_bound(counts, background)), Some((43, 0)));
+        }
+    }
+    assert_eq!(refused(lower_bound(&[top - 1], 1.0)), None);
+    let said = lower_bound(&[], 0.0).unwrap_err().to_string();
+    assert!(said.starts_with("refused 43 0: lower bound: "), "{said}");
 }
