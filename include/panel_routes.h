@@ -33,7 +33,7 @@ typedef struct {
     uint64_t optima, discarded, frames, pending;
 } search_reply;
 
-/* given 1: a bound, 0: none, since the running bound stopped being finite */
+/* given 1: a bound; refusal 0 and given 0: none, since the running bound stopped being finite */
 typedef struct { uint64_t refusal, place, given; double bound; } bound_reply;
 
 panel_reply  panel_routes_check_panel(const uint8_t *image, size_t image_len);

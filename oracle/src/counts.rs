@@ -48,12 +48,26 @@ fn background(rng: &mut Rng) -> u64 {
         12..=14 => with_exponent(rng, 1, 60),
         15..=17 => rng.pick(&[0.1f64, 0.25, 0.5, 1.0, 2.5, 3.0, 1.0 / 3.0, 1e-3, 1e300]).to_bits(),
         // A whole number, and the doubles beside it.
-        18..=23 => (rng.range(1, 2) as f64 * rng.skewed(TOP) as f64).max(1.0).to_bits() + by - 1,
+        18..=22 => (rng.skewed(TOP) as f64).max(1.0).to_bits() + by - 1,
+        23 => (rng.pick(&[1 << 52, TOP, TOP + 1]) as f64).to_bits() + by - 1,
         _ => with_exponent(rng, 1010, 1080),
     }
 }
 
+/// A count whose term is the largest double, give or take a few; now and then more behind it.
+fn edge(rng: &mut Rng) -> Call {
+    let count = 1 + rng.skewed(TOP - 1);
+    let square = count as f64 * count as f64;
+    let background = (square / f64::MAX).to_bits() + rng.range(0, 20) - 8;
+    let mut counts = vec![count];
+    counts.extend((0..rng.below(3)).map(|_| rng.skewed(TOP)));
+    Call::Bound { counts, background }
+}
+
 pub fn call(rng: &mut Rng, size: Size) -> Call {
+    if rng.one_in(16) {
+        return edge(rng);
+    }
     let background = background(rng);
     let n = match (rng.below(16), size) {
         (0, _) => 0,

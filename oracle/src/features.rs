@@ -111,7 +111,7 @@ pub fn of(image: &[u8], call: &Call, o: &Outcome) -> Vec<&'static str> {
             note(background < f64::MIN_POSITIVE, "a subnormal background");
             note(background > (1u64 << 53) as f64, "a background above all counts");
             note(r[2] == 1 && above > 0 && above < counts.len(), "counts above and below");
-            note(r[2] == 1 && f64::from_bits(r[3]) < -1e300, "a bound near the lowest double");
+            note(r[2] == 1 && f64::from_bits(r[3]) == f64::MIN, "the lowest double as a bound");
         }
     }
     found

@@ -7,7 +7,7 @@ use crate::{
     spec::{PortSpec, Spec},
 };
 use original::{
-    door::{Budget, Panel},
+    door::{self, Budget, Panel},
     genome_inference::panel_routes::Scores,
 };
 use std::panic::catch_unwind;
@@ -100,5 +100,13 @@ pub fn show() {
     (0..n).for_each(|i| words.extend([0, i, if i + 1 == n { 20_000 } else { i + 1 }, 0]));
     let name = format!("an assignment of {} words", words.len());
     say(&name, "refused 22 0", move || Panel::open(&long, None)?.check(&words));
+    for (count, background) in
+        [(1 << 53, 1.0), (u64::MAX, 1.0), (3, 0.0), (3, -1.0), (3, f64::INFINITY), (3, f64::NAN)]
+    {
+        say(&format!("lower bound of {count} over {background:?}"), "refused 43 0", move || {
+            door::observe(&[count], background);
+            Ok(door::lower_bound())
+        });
+    }
     let _ = std::panic::take_hook();
 }

@@ -284,33 +284,39 @@ fn all_units(seed: u64) -> (Spec, u64, u64) {
 /// The inputs of `bound/specs/Try.antt`.
 fn bounds() -> Vec<Call> {
     const TOP: u64 = (1 << 53) - 1;
-    let (inf, least) = (f64::INFINITY, f64::from_bits(1));
-    let cases: [(f64, &[u64]); 21] = [
+    let bits = f64::from_bits;
+    let cases: [(f64, &[u64]); 29] = [
         (0.5, &[]),
         (2.5, &[3, 0, 7, 12]),
+        (2.5, &[3, 12]),
+        (2.5, &[12, 3]),
         (3.0, &[4]),
         (0.1, &[1]),
         (4.0, &[4]),
+        (TOP as f64, &[TOP]),
         (4.0, &[3]),
-        (f64::from_bits(1f64.to_bits() + 1), &[1]),
+        (bits(1f64.to_bits() + 1), &[1]),
+        ((TOP + 1) as f64, &[TOP]),
         (1.0, &[TOP, TOP]),
         (f64::MAX, &[TOP]),
-        (least, &[5, 1]),
+        (bits(1), &[5, 1]),
         (f64::MIN_POSITIVE, &[1]),
-        (least, &[0]),
+        (bits(f64::MIN_POSITIVE.to_bits() - 1), &[1]),
+        (bits(0x0054_4000_0000_0008), &[9]),
+        (bits(0x0054_4000_0000_0007), &[9]),
+        (bits(1), &[0]),
         (6e-277, &[TOP, TOP, 1]),
         (1.0, &[1, TOP + 1]),
-        (least, &[5, TOP + 1]),
+        (f64::MAX, &[TOP + 1]),
+        (bits(1), &[5, TOP + 1]),
         (0.0, &[]),
         (-0.0, &[]),
         (-1.0, &[1]),
-        (inf, &[1]),
-        (-inf, &[]),
+        (f64::INFINITY, &[1]),
+        (f64::NEG_INFINITY, &[]),
         (f64::NAN, &[1]),
     ];
-    cases
-        .map(|(background, counts)| Call::Bound { counts: counts.into(), background: background.to_bits() })
-        .into()
+    cases.map(|(b, counts)| Call::Bound { counts: counts.into(), background: b.to_bits() }).into()
 }
 
 fn sample(seed: u64, kind: Kind) -> Vec<Chosen> {

@@ -4,12 +4,13 @@ use crate::{exports, Refusal};
 /// above the background.
 ///
 /// That it is so is proved over whole numbers, whatever the roundings: each operation is followed
-/// by a step to the next double outward. `None` says that the running bound went past the lowest
-/// double, so that minus infinity is all that can be said. No counts give 0.0.
+/// by a step to the next double outward. `None`: the running bound went past the lowest double, and
+/// no bound is given. No counts give 0.0.
 ///
-/// The counts are taken in their order. In another order the last digits may differ; both are
-/// bounds. A count of 0 takes nothing off. That no score of a likelihood lies below such a sum is
-/// a matter of its model: the original says so of its own, and it is not proved here.
+/// The counts are taken in their order. In another order the last digits may differ, and near the
+/// lowest double one order may give a bound where another gives none; each that is given is a
+/// bound. A count of 0 takes nothing off. That no score of a likelihood lies below minus that sum
+/// is a matter of its model: the original says so of its own, and it is not proved here.
 ///
 /// Refusal 43: a count of 2^53 or more, or a background that is not finite or not above 0.
 ///

@@ -1,6 +1,6 @@
 -- No bound is given exactly when the running bound stops being finite; and all that a reply says.
-use mathlib.Core.Path.{_≡_, refl, sym, _∙_, subst}
-use mathlib.Core.Logic.{_↔_}
+use mathlib.Core.Path.{_≡_, refl, sym, ap, _∙_, subst}
+use mathlib.Core.Logic.{_⊎_, inl, inr}
 use Prim.Native.Nat.{ℕ, zero, suc, _≤_}
 use native.Mathlib.Nat.{le-of-suc-le-suc, zero-lt-suc}
 use native.Mathlib.Omega.{arith}
@@ -10,16 +10,13 @@ use lib.ListN.{length, take}
 use lib.Ieee.{Float}
 use lib.Ieee.Scale.{finite}
 use Rattle.bound.specs.declared.BoundReply.{BoundReply}
-use Rattle.bound.specs.Bound.{after, zero64, noBound, boundFrom, inRange, lowerBound}
+use Rattle.bound.specs.Bound.{after, zero64, some, noBound, boundFrom, inRange, lowerBound}
 use Rattle.bound.specs.Bounded.{running, Stops, BoundHolds}
 use Rattle.bound.proofs.Theorem.{unasked, bound-below}
 
 -- as Stops, from any running bound
 abbrev StopsFrom : Float → Float → List ℕ → Type 0
 StopsFrom background bound counts = (i : ℕ) × (i ≤ length counts) × (finite (running background bound (take i counts)) ≡ false)
-
-refused-no : (r : BoundReply) → r .refusal ≡ 43 → r .refusal ≡ 0 → ⊥
-refused-no r p q = omega arith
 
 module _ (background : Float) where
   none-stops : (counts : List ℕ) (bound : Float) → boundFrom background bound counts .given ≡ 0 → StopsFrom background bound counts
@@ -47,64 +44,42 @@ module _ (background : Float) where
       go true e r = r e
       go false e r = refl
 
-  given-last : (counts : List ℕ) (bound : Float) → boundFrom background bound counts .given ≡ 1 → boundFrom background bound counts .bound ≡ running background bound counts
+  -- no bound, or the running bound after all counts
+  from-passes : (counts : List ℕ) (bound : Float) → (boundFrom background bound counts ≡ noBound 0) ⊎ (boundFrom background bound counts ≡ some (running background bound counts))
   unfolding boundFrom running
-  given-last [] bound q = refl
-  given-last (c ∷ counts) bound q = go (finite (after background bound c)) (given-last counts (after background bound c)) q
+  from-passes [] bound = inr refl
+  from-passes (c ∷ counts) bound = go (finite (after background bound c)) (from-passes counts (after background bound c))
     where
       rest : BoundReply
       rest = boundFrom background (after background bound c) counts
 
-      go : (b : Bool) → (rest .given ≡ 1 → rest .bound ≡ running background (after background bound c) counts) → cond b rest (noBound 0) .given ≡ 1
-          → cond b rest (noBound 0) .bound ≡ running background (after background bound c) counts
-      go true r q = r q
-      go false r q = absurd (unasked q)
+      last : BoundReply
+      last = some (running background (after background bound c) counts)
 
-  from-passes : (counts : List ℕ) (bound : Float) → boundFrom background bound counts .refusal ≡ 0
-  unfolding boundFrom
-  from-passes [] bound = refl
-  from-passes (c ∷ counts) bound = go (finite (after background bound c)) (from-passes counts (after background bound c))
-    where
-      go : (b : Bool) → boundFrom background (after background bound c) counts .refusal ≡ 0 → cond b (boundFrom background (after background bound c) counts) (noBound 0) .refusal ≡ 0
+      go : (b : Bool) → (rest ≡ noBound 0) ⊎ (rest ≡ last) → (cond b rest (noBound 0) ≡ noBound 0) ⊎ (cond b rest (noBound 0) ≡ last)
       go true r = r
-      go false r = refl
+      go false r = inl refl
+
+-- of two replies that both have no bound, or one, those without are told by their word
+ungiven : (r : BoundReply) (x : Float) → (r ≡ noBound 0) ⊎ (r ≡ some x) → r .given ≡ 0 → r ≡ noBound 0
+ungiven r x (inl e) q = e
+ungiven r x (inr e) q = absurd (unasked (sym q ∙ ap (λ (z : BoundReply). z .given) e))
 
 holds : (counts : List ℕ) (background : Float) → BoundHolds counts background (lowerBound counts background)
 unfolding lowerBound
 holds counts background = record {
-  refused = go (inRange counts background);
-  passed = passing (inRange counts background);
-  none = silence (inRange counts background);
-  empty = nothing (inRange counts background);
-  last = ending (inRange counts background);
+  refused = λ (h : inRange counts background ≡ false). rw h;
+  passed = λ (h : inRange counts background ≡ true). rw h (from-passes background counts zero64);
+  none = λ (h : inRange counts background ≡ true). rw h (
+    λ (e : all ≡ noBound 0). none-stops background counts zero64 (ap (λ (z : BoundReply). z .given) e),
+    λ (s : Stops background counts). ungiven all (running background zero64 counts) (from-passes background counts zero64) (stops-none background counts zero64 refl (s .0) (s .1) (s .2)),
+  );
+  empty = λ (h : inRange counts background ≡ true) (e : counts ≡ []). rw h (subst (λ (l : List ℕ). boundFrom background zero64 l ≡ some zero64) (sym e) (unfold boundFrom in refl));
   below = bound-below counts background;
 }
   where
     all : BoundReply
     all = boundFrom background zero64 counts
-
-    reply : Bool → BoundReply
-    reply b = cond b all (noBound 43)
-
-    go : (b : Bool) → reply b .refusal ≡ cond b 0 43
-    go true = from-passes background counts zero64
-    go false = refl
-
-    passing : (b : Bool) → reply b .given ≡ 1 → reply b .refusal ≡ 0
-    passing true h = from-passes background counts zero64
-    passing false h = absurd (unasked h)
-
-    silence : (b : Bool) → reply b .refusal ≡ 0 → reply b .given ≡ 0 ↔ Stops background counts
-    silence true h = (none-stops background counts zero64, λ (s : Stops background counts). stops-none background counts zero64 refl (s .0) (s .1) (s .2))
-    silence false h = absurd (refused-no (noBound 43) refl h)
-
-    nothing : (b : Bool) → reply b .refusal ≡ 0 → counts ≡ [] → (reply b .given ≡ 1) × (reply b .bound ≡ zero64)
-    nothing true h e = subst (λ (l : List ℕ). (boundFrom background zero64 l .given ≡ 1) × (boundFrom background zero64 l .bound ≡ zero64)) (sym e) (unfold boundFrom in (refl, refl))
-    nothing false h e = absurd (refused-no (noBound 43) refl h)
-
-    ending : (b : Bool) → reply b .given ≡ 1 → reply b .bound ≡ running background zero64 counts
-    ending true h = given-last background counts zero64 h
-    ending false h = absurd (unasked h)
 
 -- so of any reply that is the definition's
 pub answered : (counts : List ℕ) (background : Float) (r : BoundReply) → r ≡ lowerBound counts background → (r ≡ lowerBound counts background) × BoundHolds counts background r

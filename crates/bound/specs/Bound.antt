@@ -50,6 +50,6 @@ countsOk (c ∷ counts) = ltb c (2 ^ 53) && countsOk counts
 abbrev pub inRange : List ℕ → Float → Bool
 inRange counts background = positive background && countsOk counts
 
--- The bound begins at 0.0. Anything out of range is refused before a count is looked at.
+-- The bound begins at 0.0. What is out of range is refused before anything is computed.
 unfoldable pub lowerBound : List ℕ → Float → BoundReply
 lowerBound counts background = cond (inRange counts background) (boundFrom background zero64 counts) (noBound 43)

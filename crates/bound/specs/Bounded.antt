@@ -1,7 +1,7 @@
 -- What a reply of the lower bound says, in whole numbers: of what it is a bound, when there is none, and when the call is refused.
 use Prim.Native.Nat.{ℕ, _+_, _-_, _*_, _≤_, _<_}
 use mathlib.Core.Path.{_≡_}
-use mathlib.Core.Logic.{_↔_}
+use mathlib.Core.Logic.{_↔_, _⊎_}
 use mathlib.Core.Bool.{true, false, cond}
 use mathlib.Core.List.{List, [], _∷_}
 use lib.Dec.{ltb}
@@ -12,7 +12,7 @@ use lib.Ieee.{Float, nan, inf, fin, up}
 use lib.Ieee.Scale.{finite}
 use lib.Ieee.Positive.{num, den}
 use Rattle.bound.specs.declared.BoundReply.{BoundReply}
-use Rattle.bound.specs.Bound.{after, zero64, inRange}
+use Rattle.bound.specs.Bound.{after, zero64, some, noBound, inRange}
 
 -- A finite double is a whole number over a power of two: signed x / den x, where signed x is num x, or minus num x.
 abbrev pub signed : Float → ℤ
@@ -21,10 +21,10 @@ signed (inf s) = pos 0
 signed (fin false m e) = pos (m * up e)
 signed (fin true m e) = negℤ (pos (m * up e))
 
--- x is finite and x ≤ -(a / c), multiplied out: signed x * c ≤ -(a * den x).
+-- x is finite and x ≤ -(a / c), multiplied out by both denominators, which are above 0: signed x * c ≤ -(a * den x).
 pub record AtMostMinus (x : Float) (a c : ℕ) : Type 0 where
-  pub scale : 0 < c
   pub number : finite x ≡ true
+  pub scales : (0 < den x) × (0 < c)
   pub below : (signed x *ℤ pos c) ≤ℤ negℤ (pos (a * den x))
 
 -- With n / d for the background, a count c above it has the part (c - n / d) squared over n / d in the sum, which is (c * d - n) squared over n * d;
@@ -41,17 +41,16 @@ unfoldable pub running : Float → Float → List ℕ → Float
 running background bound [] = bound
 running background bound (c ∷ counts) = running background (after background bound c) counts
 
--- After some of the counts, taken in order, the running bound is not finite.
+-- After the first i counts, for some i, the running bound is not finite.
 abbrev pub Stops : Float → List ℕ → Type 0
 Stops background counts = (i : ℕ) × (i ≤ length counts) × (finite (running background zero64 (take i counts)) ≡ false)
 
--- What a reply says. It is refused, by 43, exactly where the background or a count is out of range. If it is not refused, no bound is given exactly
--- where the running bound stops being finite, and no counts give 0.0. A bound that is given is the running bound after all counts, and it is at most
--- minus the sum of (c - background) squared over background, for the counts c above the background.
+-- What a reply says. Out of range it is refusal 43. In range it is no bound or the running bound after all counts: no bound exactly where the running
+-- bound stops being finite, and 0.0 for no counts. A bound that is given is at most minus the sum of (c - background) squared over background, for the
+-- counts c above the background.
 pub record BoundHolds (counts : List ℕ) (background : Float) (r : BoundReply) : Type 0 where
-  pub refused : r .refusal ≡ cond (inRange counts background) 0 43
-  pub passed : r .given ≡ 1 → r .refusal ≡ 0
-  pub none : r .refusal ≡ 0 → r .given ≡ 0 ↔ Stops background counts
-  pub empty : r .refusal ≡ 0 → counts ≡ [] → (r .given ≡ 1) × (r .bound ≡ zero64)
-  pub last : r .given ≡ 1 → r .bound ≡ running background zero64 counts
+  pub refused : inRange counts background ≡ false → r ≡ noBound 43
+  pub passed : inRange counts background ≡ true → (r ≡ noBound 0) ⊎ (r ≡ some (running background zero64 counts))
+  pub none : inRange counts background ≡ true → ((r ≡ noBound 0) ↔ Stops background counts)
+  pub empty : inRange counts background ≡ true → counts ≡ [] → r ≡ some zero64
   pub below : r .given ≡ 1 → AtMostMinus (r .bound) (shares (num background) (den background) counts) (num background * den background)

@@ -3,15 +3,16 @@ use Prim.Native.Nat.{ℕ, _*_}
 use mathlib.Core.Path.{_≡_, refl}
 use mathlib.Core.Bool.{Bool, true, false, cond}
 use mathlib.Core.List.{List, [], _∷_, map}
-use lib.IntN.{pos, negℤ, _*ℤ_}
-use lib.Signed.{leZ}
+use lib.Dec.{lit<}
+use lib.IntN.{ℤ, pos, negℤ, _*ℤ_}
+use lib.Signed.{_≤ℤ_, leZ, leZ-yes}
 use lib.ListN.{replicate}
 use lib.Ieee.{Float, binary64, neg, isNan, toBits, ofBits, ofInt, sub, mul, div, lt}
 use lib.Ieee.Positive.{num, den}
 use Rattle.bound.specs.declared.BoundReply.{BoundReply}
 use Rattle.doubles.specs.NextDouble.{patternUp, nextUp, nextDown}
 use Rattle.bound.specs.Bound.{upper, term, after, zero64, countsOk, boundFrom, lowerBound}
-use Rattle.bound.specs.Bounded.{signed, share, shares}
+use Rattle.bound.specs.Bounded.{signed, AtMostMinus, share, shares}
 
 -- the background's pattern and the counts; and of the reply its three numbers and the bound's pattern
 record Case : Type 0 where
@@ -40,30 +41,40 @@ cases =
     record { background = 0x3fe0000000000000; counts = []; reply = given 0 } ∷
     -- over 2.5: -44.30000000000006
     record { background = 0x4004000000000000; counts = 3 ∷ 0 ∷ 7 ∷ 12 ∷ []; reply = given 0xc04626666666666f } ∷
+    -- counts are taken in their order: over 2.5, of 3 and 12 and of 12 and 3
+    record { background = 0x4004000000000000; counts = 3 ∷ 12 ∷ []; reply = given 0xc0421999999999a1 } ∷
+    record { background = 0x4004000000000000; counts = 12 ∷ 3 ∷ []; reply = given 0xc0421999999999a2 } ∷
     -- over 3.0: -0.33333333333333426
     record { background = 0x4008000000000000; counts = 4 ∷ []; reply = given 0xbfd5555555555566 } ∷
     -- over 0.1: -8.10000000000001
     record { background = 0x3fb999999999999a; counts = 1 ∷ []; reply = given 0xc020333333333339 } ∷
-    -- a count at the background 4.0: its upper is above it, and takes off -1.97e-31
+    -- a count at the background, 4.0 or 2^53 - 1: its upper is above it, and takes a little off
     record { background = 0x4010000000000000; counts = 4 ∷ []; reply = given 0xb990000000000005 } ∷
+    record { background = 0x433fffffffffffff; counts = 9007199254740991 ∷ []; reply = given 0xbca0000000000006 } ∷
     -- a count below the background takes nothing off
     record { background = 0x4010000000000000; counts = 3 ∷ []; reply = given 0 } ∷
-    -- nor does one whose upper is the background: 1 over the double behind 1.0
+    -- nor does one whose upper is the background: 1 over the double behind 1.0, 2^53 - 1 over 2^53
     record { background = 0x3ff0000000000001; counts = 1 ∷ []; reply = given 0 } ∷
+    record { background = 0x4340000000000000; counts = 9007199254740991 ∷ []; reply = given 0 } ∷
     -- the largest count, twice, over 1.0: -1.6225927682921347e32
     record { background = 0x3ff0000000000000; counts = 9007199254740991 ∷ 9007199254740991 ∷ []; reply = given 0xc6a0000000000003 } ∷
     -- over the largest double
     record { background = 0x7fefffffffffffff; counts = 9007199254740991 ∷ []; reply = given 0 } ∷
     -- over the least double, 5e-324, the quotient overflows
     record { background = 1; counts = 5 ∷ 1 ∷ []; reply = none } ∷
-    -- and over the least normal one it does not: -4.494232837155797e307
+    -- and over the least normal one, or the subnormal one before it, it does not: -4.494232837155797e307
     record { background = 0x0010000000000000; counts = 1 ∷ []; reply = given 0xffd0000000000007 } ∷
+    record { background = 0x000fffffffffffff; counts = 1 ∷ []; reply = given 0xffd0000000000008 } ∷
+    -- the lowest double is a bound; where the difference itself is that double, the step leads past it
+    record { background = 0x0054400000000008; counts = 9 ∷ []; reply = given 0xffefffffffffffff } ∷
+    record { background = 0x0054400000000007; counts = 9 ∷ []; reply = none } ∷
     -- a count of 0 takes nothing off, whatever the background
     record { background = 1; counts = 0 ∷ []; reply = given 0 } ∷
     -- over 6e-277 the running bound overflows at the second count
     record { background = 0x0695459e5a08dfff; counts = 9007199254740991 ∷ 9007199254740991 ∷ 1 ∷ []; reply = none } ∷
-    -- a count of 2 ^ 53 is refused, also where none would have been answered before it
+    -- a count of 2 ^ 53 is refused, also below the background and where there would have been no bound before it
     record { background = 0x3ff0000000000000; counts = 1 ∷ 9007199254740992 ∷ []; reply = refused } ∷
+    record { background = 0x7fefffffffffffff; counts = 9007199254740992 ∷ []; reply = refused } ∷
     record { background = 1; counts = 5 ∷ 9007199254740992 ∷ []; reply = refused } ∷
     -- the backgrounds 0.0, -0.0, -1.0, the infinities and a NaN, also with no counts
     record { background = 0; counts = []; reply = refused } ∷
@@ -79,26 +90,25 @@ unfolding upper term after boundFrom countsOk lowerBound patternUp nextUp nextDo
 tries = refl
 
 -- ---- what it is a bound of
--- 2.5 is 5 / 2, and 0.1 is 3602879701896397 / 2 ^ 55
-fraction : map (λ (b : ℕ). num (ofBits binary64 b) ∷ den (ofBits binary64 b) ∷ []) (0x4004000000000000 ∷ 0x3fb999999999999a ∷ [])
-    ≡ (5 ∷ 2 ∷ []) ∷ (3602879701896397 ∷ 36028797018963968 ∷ []) ∷ []
+-- 2.5 is 5 / 2, 0.1 is 3602879701896397 / 2 ^ 55, -44.25 is -177 / 4, and the reply to 4 over 3.0 is -3002399751580339 / 2 ^ 53
+abbrev top-and-bottom : ℕ → ℤ × ℕ
+top-and-bottom b = (signed (ofBits binary64 b), den (ofBits binary64 b))
+
+fractions :
+    map top-and-bottom (0x4004000000000000 ∷ 0x3fb999999999999a ∷ 0xc046200000000000 ∷ 0xbfd5555555555566 ∷ [])
+    ≡ (pos 5, 2) ∷ (pos 3602879701896397, 36028797018963968) ∷ (negℤ (pos 177), 4) ∷ (negℤ (pos 3002399751580339), 9007199254740992) ∷ []
 unfolding ofBits
-fraction = refl
+fractions = refl
 
 -- Of 3, 0, 7 and 12 over 5 / 2 the sum is (1 + 81 + 361) / 10, which is 44.3; of 4 over 3 it is 1 / 3.
 sums : (shares 5 2 (3 ∷ 0 ∷ 7 ∷ 12 ∷ []) ≡ 443) × (shares 3 1 (4 ∷ []) ≡ 1)
 unfolding shares share
 sums = (refl, refl)
 
--- whether x is at most minus the sum
-abbrev low-enough : Float → List ℕ → Float → Bool
-low-enough background counts x = leZ (signed x *ℤ pos (num background * den background)) (negℤ (pos (shares (num background) (den background) counts * den x)))
-
--- of 3, 0, 7 and 12 over 2.5: the reply is, and neither -44.25 nor 0.0
-bounded : map (λ (b : ℕ). low-enough (ofBits binary64 0x4004000000000000) (3 ∷ 0 ∷ 7 ∷ 12 ∷ []) (ofBits binary64 b)) (0xc04626666666666f ∷ 0xc046200000000000 ∷ 0 ∷ [])
-    ≡ true ∷ false ∷ false ∷ []
-unfolding ofBits shares share
-bounded = refl
+-- The reply to 3, 0, 7 and 12 over 2.5 is at most -44.3; neither -44.25 nor 0.0 is.
+bounded : AtMostMinus (ofBits binary64 0xc04626666666666f) 443 10 × (AtMostMinus (ofBits binary64 0xc046200000000000) 443 10 → ⊥) × (AtMostMinus zero64 443 10 → ⊥)
+unfolding ofBits
+bounded = (record { number = refl; scales = (lit< tt, lit< tt); below = leZ-yes tt }, λ h. h .below .le, λ h. h .below .le)
 
 -- ---- without a step outward
 -- the operations alone, each rounded to the nearest double
@@ -116,6 +126,10 @@ noStepDown background bound c = cond (lt background (upper c)) (sub binary64 bou
 unfoldable ruledBy : (Float → Float → ℕ → Float) → Float → Float → List ℕ → Float
 ruledBy rule background bound [] = bound
 ruledBy rule background bound (c ∷ counts) = ruledBy rule background (rule background bound c) counts
+
+-- whether x is at most minus the sum, as AtMostMinus has it
+abbrev low-enough : Float → List ℕ → Float → Bool
+low-enough background counts x = leZ (signed x *ℤ pos (num background * den background)) (negℤ (pos (shares (num background) (den background) counts * den x)))
 
 record Ruled : Type 0 where
   pub background : ℕ

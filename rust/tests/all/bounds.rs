@@ -50,6 +50,10 @@ fn none_where_it_is_not_finite() {
     assert_eq!(lower_bound(&[top; 3], 6e-277), Ok(None));
     assert!(lower_bound(&[top], 6e-277).unwrap().is_some_and(|b| b < -1e308));
     assert_eq!(lower_bound(&[top; 1000], f64::MAX), Ok(Some(0.0)));
+    // The lowest double is a bound; one background further the last step leads past it.
+    let background = f64::from_bits(0x0054_4000_0000_0008);
+    assert_eq!(lower_bound(&[9], background), Ok(Some(f64::MIN)));
+    assert_eq!(lower_bound(&[9], background.next_down()), Ok(None));
 }
 
 #[test]
