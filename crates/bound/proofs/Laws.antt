@@ -11,12 +11,13 @@ use lib.Dec.{T, ltb, le→leb}
 use lib.ListN.{length, drop, getD, drop-of-length-le}
 use lib.Seq.{drop-cons}
 use lib.Ieee as Ieee
-use lib.Ieee.{Float, nan, inf, fin, binary64, up, down, inFloat}
-use lib.Ieee.Fits.{up-pos}
+use lib.Ieee.{Float, nan, inf, fin, binary64, up, down, round, fits, ofInt, inFloat}
+use lib.Ieee.Fits.{up-pos, round-fits}
 use lib.Ieee.Scale.{finite}
 use lib.Ieee.Positive.{positive, first-pos}
 use borrow.Author.Tests.{ltb-true, ltb-false, lt-ltb, le-ltb}
-use Rattle.doubles.specs.NextDouble.{nextDown}
+use Rattle.doubles.specs.NextDouble.{nextUp, nextDown}
+use Rattle.doubles.proofs.Outward.{round-plus, next-above}
 use Rattle.bound.specs.Bound.{upper, term, after, some, noBound, zero64, countsOk, boundFrom, lowerBound}
 
 -- ---- the background's test
@@ -41,14 +42,19 @@ not-above-zero (fin false (suc m) e) h = absurd (none (suc m * up e) (down e) (m
     none : (a d : ℕ) → 0 < a → a * 1 ≤ 0 * 1 * d → ⊥
     none a d p h = omega (arith, zero-mul d)
 
--- ---- a count, by the test on its upper
-pub after-over : (background bound : Float) (c : ℕ) (u t r : Float) → u ≡ upper c → t ≡ term background u → r ≡ nextDown (Ieee.sub binary64 bound t) → Ieee.lt background u ≡ true → r ≡ after background bound c
-unfolding after
-after-over background bound c u t r p q e h = e ∙ rw (← p, ← q, h)
+-- ---- a count, by the test on itself in the place of its upper
+upper-above : (background : Float) (c : ℕ) → T (fits binary64 background) → positive background ≡ true → Ieee.lt background (upper c) ≡ Ieee.le background (ofInt binary64 (pos c))
+unfolding upper ofInt
+upper-above background c f p = next-above (round binary64 false c 1) background (round-fits binary64 false c 1) (round-plus binary64 c 1) f (rw p tt)
 
-pub after-under : (background bound : Float) (c : ℕ) (u : Float) → u ≡ upper c → Ieee.lt background u ≡ false → bound ≡ after background bound c
+pub after-over : (background bound : Float) (c : ℕ) (u t r : Float) → T (fits binary64 background) → positive background ≡ true → Ieee.le background (ofInt binary64 (pos c)) ≡ true
+    → u ≡ nextUp (ofInt binary64 (pos c)) → t ≡ term background u → r ≡ nextDown (Ieee.sub binary64 bound t) → r ≡ after background bound c
+unfolding after upper
+after-over background bound c u t r f k h p q e = e ∙ rw (upper-above background c f k, h, q, p)
+
+pub after-under : (background bound : Float) (c : ℕ) → T (fits binary64 background) → positive background ≡ true → Ieee.le background (ofInt binary64 (pos c)) ≡ false → bound ≡ after background bound c
 unfolding after
-after-under background bound c u p h = rw (← p, h)
+after-under background bound c f k h = rw (upper-above background c f k, h)
 
 -- ---- the counts, one after the other
 module _ (l : List ℕ) (i : ℕ) (h : i < length l) where

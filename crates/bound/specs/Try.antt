@@ -5,7 +5,7 @@ use mathlib.Core.Bool.{Bool, true, false, cond}
 use mathlib.Core.List.{List, [], _∷_, map}
 use lib.Dec.{lit<}
 use lib.IntN.{ℤ, pos, negℤ, _*ℤ_}
-use lib.Signed.{_≤ℤ_, leZ, leZ-yes}
+use lib.Signed.{leZ, leZ-yes}
 use lib.ListN.{replicate}
 use lib.Ieee.{Float, binary64, neg, isNan, toBits, ofBits, ofInt, sub, mul, div, lt}
 use lib.Ieee.Positive.{num, den}

@@ -4,7 +4,7 @@ ghost use mathlib.Core.Path.{_≡_};
 ghost use mathlib.Core.Bool.{true};
 ghost use Prim.Native.Nat.{_^_, _<_};
 ghost use lib.Ieee.Positive.{positive};
-ghost use Rattle.bound.specs.Bound.{upper, term, after, zero64, noBound, countsOk, boundFrom, lowerBound};
+ghost use Rattle.bound.specs.Bound.{term, after, zero64, noBound, countsOk, boundFrom, lowerBound};
 ghost use Rattle.bound.specs.Bounded.{BoundHolds};
 
 // Refusal 43, or 0; given 1: a bound, 0: none. Fields that an answer does not use are 0.
@@ -54,13 +54,6 @@ fn are_counts(counts: &[u64]) -> bool
     true
 }
 
-fn upper_of(count: u64) -> f64
-    requires { ⌜ count < 2 ^ 53 ⌝ }
-    ensures { λ r. ⌜ r ≡ upper count ⌝ }
-{
-    doubles::next_up(count as f64)
-}
-
 fn term_of(background: f64, upper: f64) -> f64
     ensures { λ r. ⌜ r ≡ term background upper ⌝ }
 {
@@ -68,12 +61,15 @@ fn term_of(background: f64, upper: f64) -> f64
     doubles::next_up(doubles::next_up(delta * delta) / background)
 }
 
+// No double lies between a count and its upper: so the upper is above the background exactly where the count is not below it.
 fn after_count(background: f64, bound: f64, count: u64) -> f64
+    requires { ⌜ positive background ≡ true ⌝ }
     requires { ⌜ count < 2 ^ 53 ⌝ }
     ensures { λ r. ⌜ r ≡ after background bound count ⌝ }
 {
-    let upper = upper_of(count);
-    if upper > background {
+    let whole = count as f64;
+    if whole >= background {
+        let upper = doubles::next_up(whole);
         doubles::next_down(bound - term_of(background, upper))
     } else {
         bound
@@ -81,6 +77,7 @@ fn after_count(background: f64, bound: f64, count: u64) -> f64
 }
 
 fn bound_of(counts: &[u64], background: f64) -> BoundReply
+    requires { ⌜ positive background ≡ true ⌝ }
     requires { ⌜ countsOk (now counts) ≡ true ⌝ }
     ensures { λ r. ⌜ r ≡ boundFrom background zero64 (now (counts .entry)) ⌝ }
 {

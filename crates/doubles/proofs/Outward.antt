@@ -1,21 +1,24 @@
 -- A fraction that is rounded to the nearest double lies below the next double up.
 use mathlib.Core.Path.{_≡_, refl, sym, ap, _∙_, subst}
+use mathlib.Core.Logic.{_⊎_, inl, inr}
 use Prim.Native.Nat.{ℕ, zero, suc, _+_, _-_, _*_, _^_, _%_, _≤_, _<_}
-use native.Mathlib.Nat.{le-of-eq, le-of-suc-le-suc, lt-irrefl, lt-of-lt-of-le, lt-of-not-le, zero-mul, one-mul, mul-one, mul-comm, mul-assoc, mul-right-comm, mul-lt-mul-of-pos-right, lt-of-mul-lt-mul-right}
+use native.Mathlib.Nat.{add-zero, le-of-eq, le-of-lt, le-of-suc-le-suc, lt-irrefl, lt-of-lt-of-le, lt-of-not-le, zero-mul, one-mul, mul-one, mul-comm, mul-assoc, mul-right-comm, mul-lt-mul-of-pos-right, lt-of-mul-lt-mul-right}
 use native.Mathlib.Omega.{arith}
 use mathlib.Core.Bool.{Bool, true, false, not, _&&_, cond}
 use lib.IntN.{ℤ, pos, negsuc}
-use lib.Dec.{T, leb, ltb, eqb, ltb→lt, leb→le, nltb→le, T-not}
+use lib.Dec.{T, leb, ltb, eqb, ltb→lt, leb→le, nltb→le, T-not, not-T}
 use lib.Pow.{pow-add, pow-pos, pow-lt}
-use lib.Ieee.{Float, nan, inf, fin, Format, binary64, prec, emax, low, up, down, odd, units, round, fits, lt, toBits, ofBits, isNan}
+use lib.Ieee.{Float, nan, inf, fin, Format, binary64, prec, emax, low, up, down, hid, ones, odd, units, round, fits, lt, toBits, ofBits, isNan}
 use lib.Ieee.Digits.{back}
 use lib.Ieee.Fits.{and-l, and-r, down-pos, round-fits, round-is}
 use lib.Ieee.Exact.{HasValue, odd-sign, round-exact}
 use lib.Ieee.Order.{drop, kept, round-mono, le-of-values}
-use lib.Ieee.Bits.{ofBits-toBits, ofBits-fits}
+use lib.Ieee.Positive.{positive}
+use lib.Ieee.Bits.{is-true, is-false, ofBits-toBits, ofBits-fits}
 use lib.Ieee as Ieee
 use borrow.Author.Tests.{lt-ltb}
-use Rattle.doubles.proofs.Order.{le-trans-float, lt→not-le}
+use Rattle.doubles.proofs.Order.{lt-or-ge, lt→le, le-trans-float, lt→not-le, not-le→lt}
+use Rattle.doubles.proofs.Sub.{fin-refl}
 use Rattle.doubles.specs.NextDouble.{infinity, patternUp, nextUp}
 use Rattle.doubles.proofs.Patterns.{Plus, value-plus, pattern-up, pattern-plus, pattern-finite}
 
@@ -91,7 +94,7 @@ units-plus f q k = go (ltb (q * 2 ^ k) (2 ^ (low f + suc (emax f))))
     go true = value-plus (odd (suc (prec f)) false q k (low f)) (q * 2 ^ k) (2 ^ low f) (odd-sign (suc (prec f)) false q k (low f))
     go false = tt
 
-round-plus : (f : Format) (a c : ℕ) → Plus (round f false a c)
+pub round-plus : (f : Format) (a c : ℕ) → Plus (round f false a c)
 round-plus f a c = subst Plus (sym (round-is f false a c)) (units-plus f (kept (prec f) (a * 2 ^ low f) c) (drop (prec f) (a * 2 ^ low f) c))
 
 -- ---- the step
@@ -126,3 +129,75 @@ up-rounded a c C = go (round binary64 false a c) refl (round-fits binary64 false
       where
         within : (b : ℕ) → b < infinity → b + 1 ≤ infinity
         within b h = omega arith
+
+-- ---- no double lies between one and the next
+le-self : (x : Float) → Plus x → T (Ieee.le x x)
+unfolding Ieee.le
+le-self nan p = absurd p
+le-self (inf true) p = absurd p
+le-self (inf false) p = tt
+le-self (fin true m e) p = absurd p
+le-self (fin false m e) p = fin-refl (fin false m e) tt
+
+-- up to the pattern of +infinity, a pattern that is no less is a double that is no less
+pattern-le : (f : Format) (k a : ℕ) → a + k ≤ ones f * hid f → T (Ieee.le (ofBits f a) (ofBits f (a + k)))
+pattern-le f zero a h = subst (λ (z : ℕ). T (Ieee.le (ofBits f a) (ofBits f z))) (sym (add-zero a)) (le-self (ofBits f a) (pattern-plus f a (omega arith)))
+pattern-le f (suc k) a h =
+    let l : a + k < ones f * hid f = omega arith in
+    let s : a + k + 1 ≡ a + suc k = omega arith in
+    le-trans-float (ofBits f a) (ofBits f (a + k)) (ofBits f (a + suc k)) (pattern-le f k a (omega arith))
+    (subst (λ (z : ℕ). T (Ieee.le (ofBits f (a + k)) (ofBits f z))) s (lt→le (ofBits f (a + k)) (ofBits f (a + k + 1)) (pattern-up f (a + k) l)))
+
+pattern-order : (f : Format) (a b : ℕ) → a ≤ b → b ≤ ones f * hid f → T (Ieee.le (ofBits f a) (ofBits f b))
+pattern-order f a b h t =
+    let s : a + (b - a) ≡ b = omega arith in
+    subst (λ (z : ℕ). T (Ieee.le (ofBits f a) (ofBits f z))) s (pattern-le f (b - a) a (omega arith))
+
+plus-real : (w : Float) → Plus w → T (not (isNan w))
+unfolding isNan
+plus-real nan p = p
+plus-real (inf s) p = tt
+plus-real (fin s m e) p = tt
+
+-- below the next pattern is at most the pattern
+pattern-between : (f : Format) (x b : ℕ) → x < ones f * hid f → b ≤ ones f * hid f → lt (ofBits f b) (ofBits f (x + 1)) ≡ Ieee.le (ofBits f b) (ofBits f x)
+pattern-between f x b h k = go (lt-or-ge x b)
+  where
+    one-up : (x t : ℕ) → x < t → x + 1 ≤ t
+    one-up x t h = omega arith
+
+    step : T (lt (ofBits f x) (ofBits f (x + 1)))
+    step = pattern-up f x h
+
+    real : (c : ℕ) → c ≤ ones f * hid f → T (not (isNan (ofBits f c)))
+    real c l = plus-real (ofBits f c) (pattern-plus f c l)
+
+    go : (x < b) ⊎ (b ≤ x) → lt (ofBits f b) (ofBits f (x + 1)) ≡ Ieee.le (ofBits f b) (ofBits f x)
+    go (inl l) =
+        let over : T (Ieee.le (ofBits f (x + 1)) (ofBits f b)) = pattern-order f (x + 1) b (one-up x b l) k in
+        is-false (lt (ofBits f b) (ofBits f (x + 1))) (not-T (lt (ofBits f b) (ofBits f (x + 1))) (λ q. T-not (Ieee.le (ofBits f (x + 1)) (ofBits f b)) (lt→not-le (ofBits f b) (ofBits f (x + 1)) q) over))
+        ∙ sym (is-false (Ieee.le (ofBits f b) (ofBits f x)) (not-T (Ieee.le (ofBits f b) (ofBits f x)) (λ q. T-not (Ieee.le (ofBits f (x + 1)) (ofBits f x)) (lt→not-le (ofBits f x) (ofBits f (x + 1)) step) (le-trans-float (ofBits f (x + 1)) (ofBits f b) (ofBits f x) over q))))
+    go (inr l) =
+        let under : T (Ieee.le (ofBits f b) (ofBits f x)) = pattern-order f b x l (omega arith) in
+        is-true (lt (ofBits f b) (ofBits f (x + 1)))
+        (not-le→lt (ofBits f b) (ofBits f (x + 1)) (real b k) (real (x + 1) (one-up x (ones f * hid f) h))
+        (not-T (Ieee.le (ofBits f (x + 1)) (ofBits f b)) (λ q. T-not (Ieee.le (ofBits f (x + 1)) (ofBits f x)) (lt→not-le (ofBits f x) (ofBits f (x + 1)) step) (le-trans-float (ofBits f (x + 1)) (ofBits f b) (ofBits f x) q under))))
+        ∙ sym (is-true (Ieee.le (ofBits f b) (ofBits f x)) under)
+
+finite-above : (m n : ℕ) (e d : ℤ) → T (fits binary64 (fin false m e)) → T (fits binary64 (fin false n d)) → lt (fin false n d) (nextUp (fin false m e)) ≡ Ieee.le (fin false n d) (fin false m e)
+finite-above m n e d p q =
+    rw (next-finite m e p, ← ofBits-toBits binary64 (fin false n d) q)
+    (pattern-between binary64 (toBits binary64 (fin false m e)) (toBits binary64 (fin false n d)) (pattern-finite binary64 m e p) (le-of-lt (pattern-finite binary64 n d q))
+    ∙ ap (Ieee.le (ofBits binary64 (toBits binary64 (fin false n d)))) (ofBits-toBits binary64 (fin false m e) p))
+
+-- THE LAW: a double b that is finite and above 0 is below the next one up from x, no NaN and not below 0, exactly where it is at most x
+pub next-above : (x b : Float) → T (fits binary64 x) → Plus x → T (fits binary64 b) → T (positive b) → lt b (nextUp x) ≡ Ieee.le b x
+unfolding lt Ieee.le
+next-above x nan p s q t = absurd t
+next-above x (inf u) p s q t = absurd t
+next-above x (fin true n d) p s q t = absurd t
+next-above nan (fin false n d) p s q t = absurd s
+next-above (inf true) (fin false n d) p s q t = absurd s
+next-above (inf false) (fin false n d) p s q t = rw next-infinity
+next-above (fin true m e) (fin false n d) p s q t = absurd s
+next-above (fin false m e) (fin false n d) p s q t = finite-above m n e d p q

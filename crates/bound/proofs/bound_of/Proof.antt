@@ -27,10 +27,10 @@ bound-of-spec =
     (tie.spec
     Inv-loop
     μ-loop
-    (λ c. (omega arith, refl, c .before .pre))  -- loop-holds
+    (λ c. (omega arith, refl, c .before .pre .1))  -- loop-holds
     (λ c. search needs)  -- mul-after-count
     (λ c. search needs)  -- shared-slice-read-after-count
-    (λ c κs. in-range (now (c .before .before .before .before .args .counts)) (c .before .before .loop .i) (omega arith) (c .before .before .loop .inv .2))  -- after-count-requires
+    (λ c κs. (c .before .before .before .before .pre .0, in-range (now (c .before .before .before .before .args .counts)) (c .before .before .loop .i) (omega arith) (c .before .before .loop .inv .2)))  -- after-count-requires
     (λ c κs. search needs)  -- is-finite-requires
     (λ c κs. search needs)  -- no-bound-requires
     (λ c.

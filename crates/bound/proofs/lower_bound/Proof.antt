@@ -12,7 +12,7 @@ lower-bound-spec =
     (tie.spec
     (λ c κs. search needs)  -- is-background-requires
     (λ c κs. search needs)  -- are-counts-requires
-    (λ c κs. sym (c .before .are-counts .ensures) ∙ c .if2 .taken)  -- bound-of-requires
+    (λ c κs. (sym (c .before .before .before .is-background .ensures) ∙ c .before .before .if1 .taken, sym (c .before .are-counts .ensures) ∙ c .if2 .taken))  -- bound-of-requires
     (λ c κs. search needs)  -- no-bound-requires
     (λ c. answered _ _ _ (c .bound-of .ensures ∙ call-bound _ _ (sym (c .before .before .before .before .is-background .ensures) ∙ c .before .before .before .if1 .taken) (sym (c .before .before .are-counts .ensures) ∙ c .before .if2 .taken)))  -- returns
     (λ c.
