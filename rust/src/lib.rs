@@ -59,6 +59,11 @@
 //! # Ok::<(), Box<dyn std::error::Error>>(())
 //! ```
 //!
+//! # A lower bound
+//!
+//! [`lower_bound`] takes counts and a background, and no panel: what the original reports beside
+//! its best score as a floor of all scores of its model.
+//!
 //! # Stack
 //!
 //! The calls keep their tables on the stack, up to half a MiB. On a thread with a smaller stack

@@ -11,11 +11,7 @@ use lib.Ieee.Scale.{finite}
 use borrow.Author.Tests.{ltb-false, lt-ltb, le-ltb, eq-eqb, ne-eqb}
 use Rattle.doubles.specs.NextDouble.{infinity, minusZero, patternUp, nextUp}
 
--- ---- the pattern's four ways
-pub at-plus : (b : ℕ) → b < infinity → b + 1 ≡ patternUp b
-unfolding patternUp
-at-plus b h = rw (lt-ltb b infinity h)
-
+-- ---- the pattern's ways past the finite doubles above 0
 pub at-infinity : (b : ℕ) → infinity ≤ b → b ≡ infinity → b ≡ patternUp b
 unfolding patternUp
 at-infinity b h k = rw (le-ltb b infinity h, eq-eqb b infinity k)
@@ -89,3 +85,24 @@ at-bottom nan h = refl
 at-bottom (inf true) h = refl
 at-bottom (inf false) h = refl
 at-bottom (fin s m e) h = sym h
+
+-- ---- bits that are a NaN's, and others
+pub real-bits : (b : ℕ) → b % minusZero ≤ infinity → T (not (nanBits binary64 b))
+real-bits b h = subst (λ (t : Bool). T (not t)) (sym (nanBits-above binary64 b ∙ le-ltb _ _ h)) tt
+
+pub top-bits : T (not (nanBits binary64 infinity))
+unfolding nanBits
+top-bits = tt
+
+no-number : Ieee.sub binary64 (ofBits binary64 infinity) (ofBits binary64 infinity) ≡ nan
+unfolding ofBits Ieee.sub
+no-number = refl
+
+only-nan : (x : Float) → isNan x ≡ true → nan ≡ x
+unfolding isNan
+only-nan nan e = refl
+only-nan (inf s) e = absurd (true≢false (sym e))
+only-nan (fin s m d) e = absurd (true≢false (sym e))
+
+pub nan-of : (b : ℕ) → infinity < b % minusZero → Ieee.sub binary64 (ofBits binary64 infinity) (ofBits binary64 infinity) ≡ ofBits binary64 b
+nan-of b h = no-number ∙ only-nan (ofBits binary64 b) (sym (nanBits-is binary64 b) ∙ nanBits-above binary64 b ∙ lt-ltb _ _ h)

@@ -98,7 +98,7 @@ pub round-plus : (f : Format) (a c : ℕ) → Plus (round f false a c)
 round-plus f a c = subst Plus (sym (round-is f false a c)) (units-plus f (kept (prec f) (a * 2 ^ low f) c) (drop (prec f) (a * 2 ^ low f) c))
 
 -- ---- the step
-pattern-next : (b : ℕ) → b < infinity → patternUp b ≡ b + 1
+pub pattern-next : (b : ℕ) → b < infinity → patternUp b ≡ b + 1
 unfolding patternUp
 pattern-next b h = rw (lt-ltb b infinity h)
 

@@ -1,5 +1,6 @@
-// Doubles: which are finite, and the next one up and down; laws of their order, their subtraction and their rounding.
+// Doubles: by their bits, which are finite, and the next one up and down; laws of their order, their subtraction and their rounding.
 ghost use mathlib.Core.Path.{_≡_};
+ghost use lib.Ieee.{binary64, ofBits};
 ghost use lib.Ieee.Scale.{finite};
 ghost use Rattle.doubles.specs.NextDouble.{patternUp, nextUp, nextDown};
 
@@ -14,6 +15,18 @@ pub fn is_finite(x: f64) -> bool
 {
     let top = f64::from_bits(INFINITY);
     if -top < x { x < top } else { false }
+}
+
+// A double by its bits, a NaN where they are one's.
+pub fn of_bits(bits: u64) -> f64
+    ensures { λ r. ⌜ r ≡ ofBits binary64 bits ⌝ }
+{
+    if bits % MINUS_ZERO <= INFINITY {
+        f64::from_bits(bits)
+    } else {
+        let top = f64::from_bits(INFINITY);
+        top - top
+    }
 }
 
 // The most frequent way first: from 0.0 and from any finite double above it, one pattern further.

@@ -1,16 +1,15 @@
 -- Laws of a job's parts.
-use Prim.Native.Nat.{ℕ, zero, suc, _+_, _*_, _%_, _≤_, _<_}
+use Prim.Native.Nat.{ℕ, zero, suc, _+_, _*_, _≤_, _<_}
 use native.Mathlib.Omega.{arith}
 use native.Mathlib.Nat.{zero-mul, suc-mul}
 use mathlib.Core.Path.{_≡_, refl, sym, ap, _∙_, subst}
-use mathlib.Core.Bool.{Bool, true, false, not, _&&_, _||_, true≢false}
+use mathlib.Core.Bool.{Bool, true, false, _&&_, _||_, true≢false}
 use mathlib.Core.List.{List, [], _∷_, _++_, map}
-use lib.Dec.{T, leb, eqb}
+use lib.Dec.{leb, eqb}
 use lib.ListN.{length, take, drop, set, length-set}
 use lib.Seq.{drop-drop, take-suc-set}
-use lib.Ieee.{Float, nan, inf, fin, binary64, nanBits, ofBits, isNan, sub}
-use lib.Ieee.Bits.{nanBits-is, nanBits-above}
-use borrow.Author.Tests.{lt-ltb, le-ltb, le-leb, leb-true, ne-eqb, eqb-true}
+use lib.Ieee.{Float}
+use borrow.Author.Tests.{le-leb, leb-true, ne-eqb, eqb-true}
 use Rattle.ground.specs.Lists.{each}
 use Rattle.ground.proofs.ListLaws.{both}
 use Rattle.storage.specs.Bytes.{number}
@@ -88,28 +87,6 @@ module _ (s : List ℕ) where
   unfolding jobOk
   job-sum panel words scores b r lo hi ep ew es few eb t er =
       er ∙ rw (← ep, ← ew, ← es, le-leb 24 (length s) lo, le-leb (length s) 24576 hi, ← eb, t, le-leb scores 1024 few)
-
--- ---- doubles
-
-pub real-bits : (b : ℕ) → b % 0x8000_0000_0000_0000 ≤ 0x7ff0_0000_0000_0000 → T (not (nanBits binary64 b))
-real-bits b h = subst (λ (t : Bool). T (not t)) (sym (nanBits-above binary64 b ∙ le-ltb _ _ h)) tt
-
-pub top-bits : T (not (nanBits binary64 0x7ff0_0000_0000_0000))
-unfolding nanBits
-top-bits = tt
-
-no-number : sub binary64 (ofBits binary64 0x7ff0_0000_0000_0000) (ofBits binary64 0x7ff0_0000_0000_0000) ≡ nan
-unfolding ofBits sub
-no-number = refl
-
-only-nan : (x : Float) → isNan x ≡ true → nan ≡ x
-unfolding isNan
-only-nan nan e = refl
-only-nan (inf s) e = absurd (true≢false (sym e))
-only-nan (fin s m d) e = absurd (true≢false (sym e))
-
-pub nan-of : (b : ℕ) → 0x7ff0_0000_0000_0000 < b % 0x8000_0000_0000_0000 → sub binary64 (ofBits binary64 0x7ff0_0000_0000_0000) (ofBits binary64 0x7ff0_0000_0000_0000) ≡ doubleOf b
-nan-of b h = no-number ∙ only-nan (ofBits binary64 b) (sym (nanBits-is binary64 b) ∙ nanBits-above binary64 b ∙ lt-ltb _ _ h)
 
 -- ---- the budget
 

@@ -4,7 +4,7 @@ ghost use mathlib.Core.Bool.{_||_};
 ghost use Prim.Native.Nat.{_+_, _*_, _≤_};
 ghost use lib.Dec.{eqb};
 ghost use lib.ListN.{length, drop};
-ghost use Rattle.search.specs.Job.{jobOk, doubleOf, defaultBudget, budgetFrom, budgetIn};
+ghost use Rattle.search.specs.Job.{jobOk, defaultBudget, budgetFrom, budgetIn};
 ghost use Rattle.jobs.specs.Inner.{Sound, Scored};
 use search::SearchBudget;
 
@@ -61,19 +61,6 @@ pub fn is_job(job: &[u8]) -> bool
 
 // ---- the budget
 
-// A double by its bits, a NaN where they are one's: 11 and 15 refuse it.
-fn double_of(bits: u64) -> f64
-    ensures { λ r. ⌜ r ≡ doubleOf bits ⌝ }
-{
-    let magnitude = bits % 0x8000_0000_0000_0000;
-    if magnitude <= 0x7ff0_0000_0000_0000 {
-        f64::from_bits(bits)
-    } else {
-        let top = f64::from_bits(0x7ff0_0000_0000_0000);
-        top - top
-    }
-}
-
 fn default_budget() -> SearchBudget
     ensures { λ r. ⌜ r ≡ defaultBudget ⌝ }
 {
@@ -94,7 +81,7 @@ fn budget_at(job: &[u8], at: usize) -> SearchBudget
     let max_evaluations = storage::word_at(job, at + 8);
     let max_frontier = storage::word_at(job, at + 16);
     let max_optima = storage::word_at(job, at + 24);
-    let tie_width = double_of(storage::word_at(job, at + 32));
+    let tie_width = doubles::of_bits(storage::word_at(job, at + 32));
     SearchBudget {
         max_work,
         max_evaluations,
@@ -125,7 +112,7 @@ pub fn read_scores(job: &[u8], at: usize, n: usize, scores: &mut [f64])
 {
     let mut i: usize = 0;
     while i < n {
-        scores[i] = double_of(storage::word_at(job, at + 8 * i));
+        scores[i] = doubles::of_bits(storage::word_at(job, at + 8 * i));
         i += 1;
     }
 }

@@ -17,7 +17,7 @@ fn bound_in(words: &[u64], n: usize, background: f64) -> bound::BoundReply {
 }
 
 pub fn is_bound(body: &[u8], arguments: usize, at: usize, end: usize) -> bool {
-    let background = record::double_of(record::next(body, arguments, 0));
+    let background = doubles::of_bits(record::next(body, arguments, 0));
     let n = record::next(body, arguments, 1);
     let counts = rooms::left(0, body, record::onward(arguments, 2), n);
     let r = bound_in(&counts, n as usize, background);

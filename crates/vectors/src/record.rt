@@ -90,17 +90,6 @@ pub fn is_words(words: &[u64], body: &[u8], at: usize) -> bool {
     true
 }
 
-// A double by its bits, a NaN where they are one's.
-pub fn double_of(bits: u64) -> f64 {
-    let magnitude = bits % 0x8000_0000_0000_0000;
-    if magnitude <= 0x7ff0_0000_0000_0000 {
-        f64::from_bits(bits)
-    } else {
-        let top = f64::from_bits(0x7ff0_0000_0000_0000);
-        top - top
-    }
-}
-
 // The bits of a double, of every NaN the same.
 pub fn bits_of(x: f64) -> u64 {
     if x == x {
@@ -117,6 +106,6 @@ pub fn budget_of(body: &[u8], arguments: usize) -> search::SearchBudget {
         max_evaluations: next(body, arguments, 1),
         max_frontier: next(body, arguments, 2),
         max_optima: next(body, arguments, 3),
-        tie_width: double_of(next(body, arguments, 4)),
+        tie_width: doubles::of_bits(next(body, arguments, 4)),
     }
 }

@@ -30,7 +30,7 @@ pub fn marked_doubles() -> [f64; WORDS] {
     let mut room = [0.0f64; WORDS];
     let mut i: usize = 0;
     while i < WORDS {
-        room[i] = record::double_of(mark(i));
+        room[i] = doubles::of_bits(mark(i));
         i += 1;
     }
     room

@@ -10,7 +10,7 @@ fn scores_of(body: &[u8], arguments: usize) -> [f64; SCORES] {
     let mut scores = [0.0f64; SCORES];
     let mut i: usize = 0;
     while i < SCORES {
-        scores[i] = record::double_of(record::next(body, arguments, 9 + i));
+        scores[i] = doubles::of_bits(record::next(body, arguments, 9 + i));
         i += 1;
     }
     scores

@@ -16,5 +16,5 @@ budget-at-spec =
     (λ c κs. search needs)  -- word-at-requires-4
     (λ c. search needs)  -- add-word-at-4
     (λ c κs. search needs)  -- word-at-requires-5
-    (λ c κs. search needs)  -- double-of-requires
+    (λ c κs. search needs)  -- of-bits-requires
     (λ c. search budget-read))  -- returns

@@ -18,7 +18,7 @@ read-scores-spec =
     (λ c. search needs)  -- mul-word-at
     (λ c. search needs)  -- add-word-at
     (λ c κs. search needs)  -- word-at-requires
-    (λ c κs. search needs)  -- double-of-requires
+    (λ c κs. search needs)  -- of-bits-requires
     (λ c. search needs)  -- mul-scores
     (λ c. search needs)  -- slice-write-scores
     (λ c. search needs)  -- add-i

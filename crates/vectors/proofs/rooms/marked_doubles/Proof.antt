@@ -15,7 +15,7 @@ marked-doubles-spec =
     (tie.spec Inv-loop μ-loop
     (λ c. search needs)  -- loop-holds
     (λ c κs. search needs)  -- mark-requires
-    (λ c κs. search needs)  -- double-of-requires
+    (λ c κs. search needs)  -- of-bits-requires
     (λ c. search needs)  -- mul-room
     (λ c. search needs)  -- array-write-room
     (λ c. search needs)  -- add-i

@@ -16,7 +16,7 @@ scores-of-spec =
     (λ c. search needs)  -- loop-holds
     (λ c. search needs)  -- add-next
     (λ c κs. search needs)  -- next-requires
-    (λ c κs. search needs)  -- double-of-requires
+    (λ c κs. search needs)  -- of-bits-requires
     (λ c. search needs)  -- mul-scores
     (λ c. search needs)  -- array-write-scores
     (λ c. search needs)  -- add-i
