@@ -2,8 +2,7 @@
 use mathlib.Core.Path.{_≡_, refl, sym, ap, _∙_, subst}
 use mathlib.Core.Logic.{_⊎_, inl, inr}
 use Prim.Native.Nat.{ℕ, zero, suc, _≤_}
-use native.Mathlib.Nat.{le-of-suc-le-suc, zero-lt-suc}
-use native.Mathlib.Omega.{arith}
+use native.Mathlib.Nat.{suc-ne-zero, suc-le-suc-iff, le-of-suc-le-suc, zero-lt-suc}
 use mathlib.Core.Bool.{Bool, true, false, cond, true≢false}
 use mathlib.Core.List.{List, [], _∷_}
 use lib.ListN.{length, take}
@@ -12,7 +11,7 @@ use lib.Ieee.Scale.{finite}
 use Rattle.bound.specs.declared.BoundReply.{BoundReply}
 use Rattle.bound.specs.Bound.{after, zero64, some, noBound, boundFrom, inRange, lowerBound}
 use Rattle.bound.specs.Bounded.{running, Stops, BoundHolds}
-use Rattle.bound.proofs.Theorem.{unasked, bound-below}
+use Rattle.bound.proofs.Theorem.{bound-below}
 
 -- as Stops, from any running bound
 abbrev StopsFrom : Float → Float → List ℕ → Type 0
@@ -21,15 +20,12 @@ StopsFrom background bound counts = (i : ℕ) × (i ≤ length counts) × (finit
 module _ (background : Float) where
   none-stops : (counts : List ℕ) (bound : Float) → boundFrom background bound counts .given ≡ 0 → StopsFrom background bound counts
   unfolding boundFrom running
-  none-stops [] bound q = absurd (unasked (sym q))
+  none-stops [] bound q = absurd (suc-ne-zero 0 q)
   none-stops (c ∷ counts) bound q = go (finite (after background bound c)) refl (none-stops counts (after background bound c)) q
     where
       go : (b : Bool) → b ≡ finite (after background bound c) → (boundFrom background (after background bound c) counts .given ≡ 0 → StopsFrom background (after background bound c) counts)
           → cond b (boundFrom background (after background bound c) counts) (noBound 0) .given ≡ 0 → StopsFrom background bound (c ∷ counts)
-      go true e r q = let s = r q in (suc (s .0), up (s .0) (length counts) (s .1), s .2)
-        where
-          up : (a b : ℕ) → a ≤ b → suc a ≤ suc b
-          up a b h = omega arith
+      go true e r q = let s = r q in (suc (s .0), suc-le-suc-iff .1 (s .1), s .2)
       go false e r q = (1, zero-lt-suc (length counts), sym e)
 
   stops-none : (counts : List ℕ) (bound : Float) → finite bound ≡ true → (i : ℕ) → i ≤ length counts → finite (running background bound (take i counts)) ≡ false → boundFrom background bound counts .given ≡ 0
@@ -60,10 +56,10 @@ module _ (background : Float) where
       go true r = r
       go false r = inl refl
 
--- of two replies that both have no bound, or one, those without are told by their word
+-- a reply that is no bound or some bound is no bound where its word says so
 ungiven : (r : BoundReply) (x : Float) → (r ≡ noBound 0) ⊎ (r ≡ some x) → r .given ≡ 0 → r ≡ noBound 0
 ungiven r x (inl e) q = e
-ungiven r x (inr e) q = absurd (unasked (sym q ∙ ap (λ (z : BoundReply). z .given) e))
+ungiven r x (inr e) q = absurd (suc-ne-zero 0 (sym (ap (λ (z : BoundReply). z .given) e) ∙ q))
 
 holds : (counts : List ℕ) (background : Float) → BoundHolds counts background (lowerBound counts background)
 unfolding lowerBound

@@ -1,7 +1,7 @@
 -- A bound that is given is at most minus the sum of (c - background) squared over background, for the counts c above the background.
 use mathlib.Core.Path.{_≡_, refl, sym, ap, _∙_, subst}
 use Prim.Native.Nat.{ℕ, _+_, _-_, _*_, _≤_, _<_}
-use native.Mathlib.Nat.{le-trans, le-of-eq, le-of-lt, zero-mul, add-zero, zero-add, add-assoc, mul-one, mul-comm, mul-assoc, mul-left-comm, mul-right-comm, mul-le-mul-right, le-of-mul-le-mul-right, mul-pos}
+use native.Mathlib.Nat.{suc-ne-zero, sub-eq-zero-of-le, le-trans, le-of-eq, le-of-lt, zero-mul, add-zero, zero-add, add-assoc, mul-one, mul-comm, mul-assoc, mul-left-comm, mul-right-comm, mul-le-mul-right, le-of-mul-le-mul-right, mul-pos}
 use native.Mathlib.Omega.{arith}
 use mathlib.Core.Bool.{Bool, true, false, not, _&&_, cond}
 use mathlib.Core.List.{List, [], _∷_}
@@ -18,13 +18,9 @@ use Rattle.bound.specs.Bounded.{share, shares, AtMostMinus}
 use Rattle.doubles.proofs.Outward.{Above}
 use Rattle.bound.proofs.Operations.{Under, above-less, count-up, less-up, square-up, over-up, under-minus, minus-down}
 
--- no bound is none
-pub unasked : _≡_ {A = ℕ} 0 1 → ⊥
-unasked h = omega arith
-
 -- ---- what a count adds to the sum; the truncated difference is 0 for a count that is not above the background
-none-left : (a b : ℕ) → a ≤ b → a - b ≡ 0
-none-left a b h = omega arith
+square-none : (a b : ℕ) → a ≤ b → (a - b) * (a - b) ≡ 0
+square-none a b h = ap (λ (z : ℕ). z * z) (sub-eq-zero-of-le h) ∙ zero-mul 0
 
 share-is : (n d c : ℕ) → share n d c ≡ (c * d - n) * (c * d - n)
 unfolding share
@@ -32,10 +28,10 @@ share-is n d c = go (ltb n (c * d)) (nltb→le n (c * d))
   where
     go : (b : Bool) → (T (not b) → c * d ≤ n) → cond b ((c * d - n) * (c * d - n)) 0 ≡ (c * d - n) * (c * d - n)
     go true h = refl
-    go false h = sym (ap (λ (z : ℕ). z * z) (none-left (c * d) n (h tt)) ∙ zero-mul 0)
+    go false h = sym (square-none (c * d) n (h tt))
 
 share-none : (n d c : ℕ) → c * d ≤ n → share n d c ≡ 0
-share-none n d c h = share-is n d c ∙ ap (λ (z : ℕ). z * z) (none-left (c * d) n h) ∙ zero-mul 0
+share-none n d c h = share-is n d c ∙ square-none (c * d) n h
 
 reduced : (s n d : ℕ) → s * (d * d * n) ≡ s * d * (n * d)
 reduced s n d = simp (mul-assoc, mul-comm, mul-left-comm)
@@ -110,15 +106,15 @@ module _ (k : ℕ) (g : ℤ) (K : 0 < k) where
           → (Under (after (fin false k g) bound c) (A + B) C → rest .given ≡ 1 → Under (rest .bound) (A + B + shares (k * up g) (down g) counts) C)
           → cond b rest (noBound 0) .given ≡ 1 → Under (cond b rest (noBound 0) .bound) (A + (B + shares (k * up g) (down g) counts)) C
       go true y r q = subst (λ (z : ℕ). Under (rest .bound) z C) (add-assoc A B (shares (k * up g) (down g) counts)) (r (y tt) q)
-      go false y r q = absurd (unasked q)
+      go false y r q = absurd (suc-ne-zero 0 (sym q))
 
 -- THE THEOREM
 pub bound-below : (counts : List ℕ) (background : Float) → lowerBound counts background .given ≡ 1
     → AtMostMinus (lowerBound counts background .bound) (shares (num background) (den background) counts) (num background * den background)
 unfolding lowerBound
-bound-below counts nan q = absurd (unasked q)
-bound-below counts (inf s) q = absurd (unasked q)
-bound-below counts (fin true m e) q = absurd (unasked q)
+bound-below counts nan q = absurd (suc-ne-zero 0 (sym q))
+bound-below counts (inf s) q = absurd (suc-ne-zero 0 (sym q))
+bound-below counts (fin true m e) q = absurd (suc-ne-zero 0 (sym q))
 bound-below counts (fin false m e) q = go (ltb 0 m) (countsOk counts) (ltb→lt 0 m) q
   where
     nothing : (C : ℕ) → 0 * 1 + 0 * 1 * C ≤ 0
@@ -130,5 +126,5 @@ bound-below counts (fin false m e) q = go (ltb 0 m) (countsOk counts) (ltb→lt 
         under-minus (boundFrom (fin false m e) zero64 counts .bound) (shares (m * up e) (down e) counts) (m * up e * down e) (mul-pos (mul-pos (M tt) (up-pos e)) (down-pos e))
         (subst (λ (z : ℕ). Under (boundFrom (fin false m e) zero64 counts .bound) z (m * up e * down e)) (zero-add (shares (m * up e) (down e) counts))
         (from-below m e (M tt) counts zero64 0 (nothing (m * up e * down e)) q))
-    go true false M q = absurd (unasked q)
-    go false b M q = absurd (unasked q)
+    go true false M q = absurd (suc-ne-zero 0 (sym q))
+    go false b M q = absurd (suc-ne-zero 0 (sym q))

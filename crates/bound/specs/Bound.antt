@@ -41,12 +41,12 @@ boundFrom background bound (c ∷ counts) =
     let next = after background bound c in
     cond (finite next) (boundFrom background next counts) (noBound 0)
 
--- Each count is below 2 ^ 53.
+-- Whether each count is below 2 ^ 53.
 unfoldable pub countsOk : List ℕ → Bool
 countsOk [] = true
 countsOk (c ∷ counts) = ltb c (2 ^ 53) && countsOk counts
 
--- And the background is finite and above 0.
+-- In range: each count is below 2 ^ 53, and the background is finite and above 0.
 abbrev pub inRange : List ℕ → Float → Bool
 inRange counts background = positive background && countsOk counts
 

@@ -2,7 +2,7 @@
 use mathlib.Core.Path.{_≡_, refl, sym, ap, _∙_, subst}
 use mathlib.Core.Logic.{_⊎_, inl, inr}
 use Prim.Native.Nat.{ℕ, zero, suc, _+_, _-_, _*_, _^_, _%_, _≤_, _<_}
-use native.Mathlib.Nat.{add-zero, le-of-eq, le-of-lt, le-of-suc-le-suc, lt-irrefl, lt-of-lt-of-le, lt-of-not-le, zero-mul, one-mul, mul-one, mul-comm, mul-assoc, mul-right-comm, mul-lt-mul-of-pos-right, lt-of-mul-lt-mul-right}
+use native.Mathlib.Nat.{add-zero, add-sub-of-le, le-of-eq, le-of-lt, le-of-suc-le-suc, lt-irrefl, lt-of-lt-of-le, lt-of-not-le, zero-mul, one-mul, mul-one, mul-comm, mul-assoc, mul-right-comm, mul-lt-mul-of-pos-right, lt-of-mul-lt-mul-right}
 use native.Mathlib.Omega.{arith}
 use mathlib.Core.Bool.{Bool, true, false, not, _&&_, cond}
 use lib.IntN.{ℤ, pos, negsuc}
@@ -20,7 +20,7 @@ use borrow.Author.Tests.{lt-ltb}
 use Rattle.doubles.proofs.Order.{lt-or-ge, lt→le, le-trans-float, lt→not-le, not-le→lt}
 use Rattle.doubles.proofs.Sub.{fin-refl}
 use Rattle.doubles.specs.NextDouble.{infinity, patternUp, nextUp}
-use Rattle.doubles.proofs.Patterns.{Plus, value-plus, pattern-up, pattern-plus, pattern-finite}
+use Rattle.doubles.proofs.Patterns.{one-up, Plus, value-plus, pattern-up, pattern-plus, pattern-finite}
 
 -- ---- a double is rounded to itself
 pow-le-back : (a l : ℕ) → 2 ^ a ≤ 2 ^ l → a ≤ l
@@ -124,11 +124,8 @@ up-rounded a c C = go (round binary64 false a c) refl (round-fits binary64 false
         let B : b < infinity = pattern-finite binary64 m e p in
         let higher : T (lt (ofBits binary64 b) (ofBits binary64 (b + 1))) = pattern-up binary64 b B in
         subst (λ (w : Float). Above w a c) (sym (next-finite m e p))
-        (above-rounded binary64 a c C (ofBits binary64 (b + 1)) (ofBits-fits binary64 (b + 1)) (pattern-plus binary64 (b + 1) (within b B))
+        (above-rounded binary64 a c C (ofBits binary64 (b + 1)) (ofBits-fits binary64 (b + 1)) (pattern-plus binary64 (b + 1) (one-up b infinity B))
         (subst (λ (w : Float). T (lt w (ofBits binary64 (b + 1)))) (ofBits-toBits binary64 (fin false m e) p ∙ q) higher))
-      where
-        within : (b : ℕ) → b < infinity → b + 1 ≤ infinity
-        within b h = omega arith
 
 -- ---- no double lies between one and the next
 le-self : (x : Float) → Plus x → T (Ieee.le x x)
@@ -150,8 +147,7 @@ pattern-le f (suc k) a h =
 
 pattern-order : (f : Format) (a b : ℕ) → a ≤ b → b ≤ ones f * hid f → T (Ieee.le (ofBits f a) (ofBits f b))
 pattern-order f a b h t =
-    let s : a + (b - a) ≡ b = omega arith in
-    subst (λ (z : ℕ). T (Ieee.le (ofBits f a) (ofBits f z))) s (pattern-le f (b - a) a (omega arith))
+    subst (λ (z : ℕ). T (Ieee.le (ofBits f a) (ofBits f z))) (add-sub-of-le h) (pattern-le f (b - a) a (omega arith))
 
 plus-real : (w : Float) → Plus w → T (not (isNan w))
 unfolding isNan
@@ -163,9 +159,6 @@ plus-real (fin s m e) p = tt
 pattern-between : (f : Format) (x b : ℕ) → x < ones f * hid f → b ≤ ones f * hid f → lt (ofBits f b) (ofBits f (x + 1)) ≡ Ieee.le (ofBits f b) (ofBits f x)
 pattern-between f x b h k = go (lt-or-ge x b)
   where
-    one-up : (x t : ℕ) → x < t → x + 1 ≤ t
-    one-up x t h = omega arith
-
     step : T (lt (ofBits f x) (ofBits f (x + 1)))
     step = pattern-up f x h
 
