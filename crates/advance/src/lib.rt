@@ -139,7 +139,7 @@ fn end_route(image: &[u8], h: image::Header, family: image::Family, f: Stored, l
     }
 }
 
-fn terminal_unit(
+pub fn terminal_unit(
     image: &[u8],
     h: image::Header,
     family: image::Family,
@@ -184,7 +184,7 @@ fn behind_next(f: Stored) -> usize
 
 // A hub member: the piece up to the outgoing cut is not clear, so it is passed over unread, or it is the outgoing port itself, or it is
 // gone down to.
-fn meet(
+pub fn meet(
     image: &[u8],
     h: image::Header,
     family: image::Family,
@@ -276,7 +276,7 @@ pub fn past_next(
 }
 
 // The next port is passed; where its bucket opens, the piece up to it is held against the path.
-fn pass_port(
+pub fn pass_port(
     image: &[u8],
     h: image::Header,
     memo: &mut [usize; landings::MEMO],

@@ -80,3 +80,6 @@ accepted-ends s e =
     let t = taken s e in
     let p = panelOf s in
     walk-ends p (sound-of s (t .header) (t .accepted)) (some-path s (t .header) (t .accepted)) (seededWith untouched (nativesOf p)) refl refl
+
+pub accepted-sound : (s : List ℕ) → panelRefusal s ≡ 0 → Sound (panelOf s)
+accepted-sound s e = let t = taken s e in sound-of s (t .header) (t .accepted)

@@ -40,7 +40,7 @@ module _ (p : Panel) (paths : List ℕ) where
   abbrev pub GoodStack : Stack → Type 0
   GoodStack (on st out) = AllGood st
 
-  enter-good : (a : Place) → Good p (enter p a)
+  pub enter-good : (a : Place) → Good p (enter p a)
   unfolding enter
   enter-good a = record { hub = omega arith; next = go (a .reverse) }
     where
@@ -55,7 +55,7 @@ module _ (p : Panel) (paths : List ℕ) where
   acted-is f rest out (doing (down a) g) d h = (rw (d .0, enter-tasks) refl, (enter-good a, (d .1, h)))
   acted-is f rest out (doing (give x) g) d h = (rw (d .0) refl, (d .1, h))
 
-  unit-is : (s : Stack) → GoodStack s → (tasksIn (unitOn s) ≡ one (tasksOf p paths) (tasksIn s)) × GoodStack (unitOn s)
+  pub unit-is : (s : Stack) → GoodStack s → (tasksIn (unitOn s) ≡ one (tasksOf p paths) (tasksIn s)) × GoodStack (unitOn s)
   unit-is (on [] out) h = (refl, tt)
   unit-is (on (f ∷ rest) out) h = acted-is f rest out (unitOf p paths f) (unit-does p paths f (h .0)) (h .1)
 
@@ -70,7 +70,7 @@ module _ (p : Panel) (paths : List ℕ) where
   abbrev depth : State Place (List Route) → List (List Doing)
   depth (at st out) = st
 
-  emptied : (s : Stack) (out : List (List Route)) → tasksIn s ≡ at [] out → s ≡ on [] out
+  pub emptied : (s : Stack) (out : List (List Route)) → tasksIn s ≡ at [] out → s ≡ on [] out
   emptied (on [] o) out e = ap (on []) (ap outOf e)
   emptied (on (f ∷ st) o) out e = absurd (cons≢nil (ap depth e))
 

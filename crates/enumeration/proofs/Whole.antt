@@ -38,26 +38,26 @@ module _ (p : Panel) (lim : Limits) where
   units-add (suc m) n (going w) = rw suc-add (units-add m n (unit p lim w))
 
 -- what a walk has counted, beside its families
-record Counts : Type 0 where
-  work : ℕ
-  evaluations : ℕ
-  natives : ℕ
-  donors : ℕ
+pub record Counts : Type 0 where
+  pub work : ℕ
+  pub evaluations : ℕ
+  pub natives : ℕ
+  pub donors : ℕ
 
 -- in the order of the families
 abbrev InOrder : List Assignment → Type 0
 InOrder l = Pairs (λ a c. a .family ≤ c .family) l
 
 module _ (p : Panel) where
-  abbrev tag : ℕ → List Route → Assignment
+  abbrev pub tag : ℕ → List Route → Assignment
   tag f rs = record { family = f; routes = rs }
 
-  abbrev at : ℕ → Counts → List Frame → List Assignment → Walk
+  abbrev pub at : ℕ → Counts → List Frame → List Assignment → Walk
   at f c st out =
       record { work = c .work; evaluations = c .evaluations; natives = c .natives; donors = c .donors; families = f; stack = st; out = out }
 
   -- where the walk stands when the family f's stack stands so
-  abbrev phaseOf : ℕ → Counts → List Assignment → Stack → Phase
+  abbrev pub phaseOf : ℕ → Counts → List Assignment → Stack → Phase
   phaseOf f c base (on [] o) = begin p (at (suc f) c [] (base ++ map (tag f) o))
   phaseOf f c base (on (g ∷ st) o) = going (at f c (g ∷ st) (base ++ map (tag f) o))
 
@@ -69,7 +69,7 @@ module _ (p : Panel) where
       go (y ∷ o) = ap (λ l. tag f y ∷ l) (go o)
 
   -- a unit of the walk is one on the family's stack
-  unit-phase : (f : ℕ) (c : Counts) (base : List Assignment) (g : Frame) (st : List Frame) (o : List (List Route))
+  pub unit-phase : (f : ℕ) (c : Counts) (base : List Assignment) (g : Frame) (st : List Frame) (o : List (List Route))
       → (c′ : Counts) × (unit p unlimited (at f c (g ∷ st) (base ++ map (tag f) o)) ≡ phaseOf f c′ base (unitOn p (pathsAt p f) (on (g ∷ st) o)))
   unfolding enter
   unit-phase f c base g st o = go st (unitOf p (pathsAt p f) g)
@@ -85,12 +85,12 @@ module _ (p : Panel) where
       go st (doing (down a) k) = (more (c .evaluations), refl)
       go st (doing (give x) k) = (more (suc (c .evaluations)), ap (λ l. going (at f (more (suc (c .evaluations))) (k ∷ st) l)) (map-snoc f base o x))
 
-  idle : (paths : List ℕ) (n : ℕ) (o : List (List Route)) → steps p paths n (on [] o) ≡ on [] o
+  pub idle : (paths : List ℕ) (n : ℕ) (o : List (List Route)) → steps p paths n (on [] o) ≡ on [] o
   idle paths zero o = refl
   idle paths (suc n) o = idle paths n o
 
   -- a run of the walk from one phase to another
-  abbrev Runs : Phase → Phase → Type 0
+  abbrev pub Runs : Phase → Phase → Type 0
   Runs s t = (n : ℕ) × (units p unlimited n s ≡ t)
 
   family-runs : (f : ℕ) (base : List Assignment) (n : ℕ) (c : Counts) (st : List Frame) (o out : List (List Route)) → steps p (pathsAt p f) n (on st o) ≡ on [] out
@@ -190,7 +190,7 @@ module _ (p : Panel) where
               let k : List·Memᴰ (a .routes) o = e .legal (a .routes) .1 (subst (λ i. LegalRoutes p (pathsAt p i) (a .routes)) c own) in
               Memᴰ·append-left rest (Memᴰ·cast (λ i. record { family = c i; routes = a .routes }) (mem-map-in (tag f) k))
 
-  runs-join : (s t u : Phase) → Runs s t → Runs t u → Runs s u
+  pub runs-join : (s t u : Phase) → Runs s t → Runs t u → Runs s u
   runs-join s t u r q = (r .0 + q .0, units-add p unlimited (r .0) (q .0) s ∙ ap (units p unlimited (q .0)) (r .1) ∙ q .1)
 
   -- a family's walk, and the walk of the later ones

@@ -7,6 +7,7 @@ ghost use Rattle.evaluate.specs.Check.{checkAnswer, checkOut};
 ghost use Rattle.bound.specs.Bound.{lowerBound};
 ghost use Rattle.bound.specs.Bounded.{BoundHolds};
 ghost use Rattle.search.specs.Answers.{Rooms, searchAnswer, searchRooms, ListRooms, listAnswer, listRooms};
+ghost use Rattle.plain.specs.Answer.{plainAnswer, plainOut};
 ghost use Rattle.panel_routes.specs.Replies.{panelReply, portReply, bucketReply};
 
 // Refusal 0: none. Fields that an answer does not use are 0.
@@ -178,4 +179,17 @@ pub extern "C" fn panel_routes_lower_bound(counts: &[u64], background: f64) -> b
     ensures { λ r. ⌜ BoundHolds (now (counts .entry)) background r ⌝ }
 {
     bound::lower_bound(counts, background)
+}
+
+// The plain engine: all legal assignments, without budgets, from number from + 1 on, as many as fit into out.
+#[no_mangle]
+pub extern "C" fn panel_routes_plain_list(
+    image: &[u8],
+    from: u64,
+    out: &mut [u64],
+) -> plain::PlainReply
+    ensures { λ r. ⌜ r ≡ plainAnswer (now (image .entry)) from (length (now (out .entry))) ⌝ }
+    ensures { λ r. ⌜ now (out .exit) ≡ plainOut (now (image .entry)) from (now (out .entry)) ⌝ }
+{
+    plain::list(image, from, out)
 }

@@ -1,0 +1,4 @@
+pub mod Steps
+pub mod Statement
+pub mod Inner
+pub mod Answer
