@@ -2,7 +2,7 @@
 use Prim.Native.Nat.{ℕ, zero, suc, _+_, _*_, _≤_, _<_}
 use native.Mathlib.Omega.{arith}
 use mathlib.Core.Path.{_≡_, refl, sym, _∙_, ap, subst}
-use mathlib.Core.Bool.{Bool, true, false, _||_}
+use mathlib.Core.Bool.{Bool, true, false, true≢false, _||_}
 use mathlib.Core.List.{List, [], _∷_, _++_, map, append-assoc, append-nil}
 use lib.Dec.{eqb}
 use lib.ListN.{length, length-append}
@@ -24,9 +24,10 @@ use Rattle.listing.specs.declared.Listing.{Listing}
 use Rattle.listing.specs.Inner.{Handed, Entered}
 use Rattle.listing.proofs.Rest.{entered-told}
 use Rattle.frames.specs.declared.Stored.{Stored}
+use Rattle.plain.specs.declared.Here.{Here}
 use Rattle.plain.specs.declared.Told.{Told}
 use Rattle.plain.specs.Steps.{Mark, Marks, gives, tooDeep, listed, goesTooDeep, depth}
-use Rattle.plain.specs.Inner.{slotWords, assignmentOf, wordsOf, Gathered, Standing, Stepped, Given, InHand}
+use Rattle.plain.specs.Inner.{slotWords, assignmentOf, wordsOf, isOver, Gathered, Tells, Standing, Stepped, Given, InHand}
 
 -- ---- lists
 
@@ -44,20 +45,24 @@ words-join n l m = ap (map (λ rs. encode (assignmentOf n rs))) (listed-join l m
     go [] = refl
     go (x ∷ l) = ap (λ r. encode (assignmentOf n x) ∷ r) (go l)
 
-pub deep-join : {X : Type 0} (b : Bool) (l m : List (Mark X)) → (b || goesTooDeep l || goesTooDeep m) ≡ (b || goesTooDeep (l ++ m))
+deep-join : {X : Type 0} (b : Bool) (l m : List (Mark X)) → (b || goesTooDeep l || goesTooDeep m) ≡ (b || goesTooDeep (l ++ m))
 unfolding goesTooDeep
 deep-join true l m = refl
 deep-join false [] m = refl
 deep-join false (gives x ∷ l) m = deep-join false l m
 deep-join false (tooDeep ∷ l) m = refl
 
-or-none : (b : Bool) → b ≡ (b || false)
+pub or-none : (b : Bool) → b ≡ (b || false)
 or-none true = refl
 or-none false = refl
 
-pub or-left : (b c : Bool) → (b || c) ≡ false → b ≡ false
+or-left : (b c : Bool) → (b || c) ≡ false → b ≡ false
 or-left true c e = e
 or-left false c e = refl
+
+or-right : (b c : Bool) → (b || c) ≡ false → c ≡ false
+or-right true c e = absurd (true≢false e)
+or-right false c e = e
 
 -- ---- gathered
 
@@ -80,24 +85,66 @@ module _ {xs ys zs : List ℕ} {l m r : Listing} where
 handed-gathered : {ws xs ys : List ℕ} {l r : Listing} → Handed ws xs ys l r → Gathered (ws ∷ []) xs ys l r
 handed-gathered h = record { room = h .room; written = h .written; words = h .words; long = h .long; within = h .within; few = h .few }
 
+-- nothing more fits
+gathered-full : {xs : List ℕ} {l : Listing} (ws : List (List ℕ)) → l .full ≡ true → l .words ≤ length xs → l .written ≤ l .words → Gathered ws xs xs l l
+gathered-full ws e h k = record { room = λ t. rw e refl; written = λ t. rw e refl; words = λ t. rw e refl; long = refl; within = h; few = k }
+
+-- ---- marks told one after the other
+
+module _ {X : Type 0} (words : List (Mark X) → List (List ℕ)) (none : words [] ≡ []) (join : (m n : List (Mark X)) → words (m ++ n) ≡ words m ++ words n) where
+  pub tells-none : {out : List ℕ} {l : Told} → l .listing .words ≤ length out → l .listing .written ≤ l .listing .words → Tells words [] out out l l
+  unfolding goesTooDeep
+  tells-none {l = l} h k = record { lists = λ e. rw none (gathered-none h k); deep = λ f. or-none (l .deep); stays = λ e. e; looks = refl }
+
+  pub tells-then : {out o₁ o₂ : List ℕ} {l l₁ l₂ : Told} {m n : List (Mark X)} → Tells words m out o₁ l l₁ → Tells words n o₁ o₂ l₁ l₂ → Tells words (m ++ n) out o₂ l l₂
+  tells-then {l = l} {m = m} {n = n} a b =
+      record {
+        lists = λ e. rw (join m n) (gathered-then (a .lists (b .stays e)) (b .lists e));
+        deep = λ f.
+            let g : l .looks ≡ false → (goesTooDeep m || goesTooDeep n) ≡ false = λ z. deep-join false m n ∙ f z in
+            b .deep (λ z. or-right (goesTooDeep m) (goesTooDeep n) (g (sym (a .looks) ∙ z)))
+            ∙ ap (λ x. x || goesTooDeep n) (a .deep (λ z. or-left (goesTooDeep m) (goesTooDeep n) (g z))) ∙ deep-join (l .deep) m n;
+        stays = λ e. a .stays (b .stays e);
+        looks = b .looks ∙ a .looks;
+      }
+
+-- nothing more is to be done: whatever the marks, they change nothing
+pub tells-over : {X : Type 0} (words : List (Mark X) → List (List ℕ)) (marks : List (Mark X)) {out : List ℕ} (l : Told) → isOver l ≡ true → l .listing .words ≤ length out → l .listing .written ≤ l .listing .words
+    → Tells words marks out out l l
+tells-over words marks {out} l e h k = go (l .deep) (l .looks) refl refl
+  where
+    go : (d w : Bool) → l .deep ≡ d → l .looks ≡ w → Tells words marks out out l l
+    go true w p q = record { lists = λ z. absurd (true≢false (sym p ∙ z)); deep = λ f. rw p refl; stays = λ z. z; looks = refl }
+    go false true p q = absurd (true≢false (sym (rw (p, q) at e)))
+    go false false p q = record { lists = λ z. gathered-full (words marks) (rw (p, q) at e) h k; deep = λ f. rw (f q) (or-none (l .deep)); stays = λ z. z; looks = refl }
+
 -- ---- steps one after the other
 
-module _ {s : List ℕ} {h : Header} {number top : ℕ} where
-  pub step-none : {path slot out memo : List ℕ} {l : Told} → l .listing .words ≤ length out → l .listing .written ≤ l .listing .words → Known s h memo
-      → Stepped s h number top path slot out l [] memo path slot out l
-  unfolding wordsOf listed goesTooDeep
-  step-none {l = l} a b k =
-      record { lists = λ e. gathered-none a b; deep = or-none (l .deep); within = a; written = b; longOut = refl; stays = λ i h. refl; known = k; longPath = refl; longSlot = refl }
+wordless : (n : ℕ) → wordsOf n [] ≡ []
+unfolding wordsOf listed
+wordless n = refl
+
+module _ {s : List ℕ} {here : Here} where
+  pub step-none : {path slot out memo : List ℕ} {l : Told} → l .listing .words ≤ length out → l .listing .written ≤ l .listing .words → Known s (here .h) memo
+      → Stepped s here path slot out l [] memo path slot out l
+  step-none a b k =
+      let n = here .family .number in
+      record { tells = tells-none (wordsOf n) (wordless n) (words-join n) a b; within = a; written = b; longOut = refl; stays = λ i h. refl; known = k; longPath = refl; longSlot = refl }
+
+  pub step-over : {path slot out memo : List ℕ} {l : Told} (marks : Marks) → isOver l ≡ true → l .listing .words ≤ length out → l .listing .written ≤ l .listing .words → Known s (here .h) memo
+      → Stepped s here path slot out l marks memo path slot out l
+  step-over {l = l} marks e a b k =
+      record { tells = tells-over (wordsOf (here .family .number)) marks l e a b; within = a; written = b; longOut = refl; stays = λ i h. refl; known = k; longPath = refl; longSlot = refl }
 
   pub step-then : {path slot out memo₁ p₁ s₁ o₁ memo₂ p₂ s₂ o₂ : List ℕ} {l l₁ l₂ : Told} {m n : Marks}
-      → Stepped s h number top path slot out l m memo₁ p₁ s₁ o₁ l₁ → Stepped s h number top p₁ s₁ o₁ l₁ n memo₂ p₂ s₂ o₂ l₂ → Stepped s h number top path slot out l (m ++ n) memo₂ p₂ s₂ o₂ l₂
-  step-then {l = l} {l₁ = l₁} {m = m} {n = n} a b =
+      → Stepped s here path slot out l m memo₁ p₁ s₁ o₁ l₁ → Stepped s here p₁ s₁ o₁ l₁ n memo₂ p₂ s₂ o₂ l₂ → Stepped s here path slot out l (m ++ n) memo₂ p₂ s₂ o₂ l₂
+  step-then a b =
+      let n = here .family .number in
       record {
-        lists = λ e. rw (words-join number m n) (gathered-then (a .lists (or-left (l₁ .deep) (goesTooDeep n) (sym (b .deep) ∙ e))) (b .lists e));
+        tells = tells-then (wordsOf n) (wordless n) (words-join n) (a .tells) (b .tells);
         within = b .within;
         written = b .written;
         longOut = b .longOut ∙ a .longOut;
-        deep = b .deep ∙ ap (λ x. x || goesTooDeep n) (a .deep) ∙ deep-join (l .deep) m n;
         stays = λ i q. b .stays i q ∙ a .stays i q;
         known = b .known;
         longPath = b .longPath ∙ a .longPath;
@@ -110,19 +157,20 @@ path-stays path path′ top f zero h = path-zero path′ ∙ sym (path-zero path
 path-stays path path′ top f (suc j) h =
     path-suc path′ j ∙ rw (path-stays path path′ top f j (omega arith), f j (omega arith), f (suc j) h) (sym (path-suc path j))
 
-module _ {s : List ℕ} {h : Header} {starts memo : List ℕ} {family : Family} {path slot out : List ℕ} {top left : ℕ} {l : Told} where
+module _ {s starts memo path slot out : List ℕ} {here : Here} {l : Told} where
   -- a step may follow
-  pub standing-next : {number top′ : ℕ} {marks : Marks} {memo₁ p₁ s₁ o₁ : List ℕ} {r : Told} → Standing s h starts memo family path slot out top left l
-      → Stepped s h number top′ path slot out l marks memo₁ p₁ s₁ o₁ r → Standing s h starts memo₁ family p₁ s₁ o₁ top left r
-  standing-next a b =
+  pub standing-next : {there : Here} {marks : Marks} {memo₁ p₁ s₁ o₁ : List ℕ} {r : Told} → Standing s starts memo path slot out here l → there .h ≡ here .h
+      → Stepped s there path slot out l marks memo₁ p₁ s₁ o₁ r → Standing s starts memo₁ p₁ s₁ o₁ here r
+  standing-next a e b =
       let x = b .longPath in
       let y = b .longSlot in
       let u = a .room in
       let v = a .scratch in
+      let k = b .known in
       record {
         accepted = a .accepted;
         started = a .started;
-        known = b .known;
+        known = rw e at k;
         groups = a .groups;
         room = rw x u;
         few = a .few;
@@ -131,17 +179,17 @@ module _ {s : List ℕ} {h : Header} {starts memo : List ℕ} {family : Family} 
         written = b .written;
       }
 
-module _ {s : List ℕ} {h : Header} {family : Family} {lane : Lane} {path : List ℕ} {top : ℕ} {g : Stored} where
-  pub in-hand-stays : {path′ : List ℕ} → InHand s h family lane path top g → ((i : ℕ) → i < top + 1 → storedAt path′ i ≡ storedAt path i) → length path′ ≡ length path
-      → InHand s h family lane path′ top g
+module _ {s : List ℕ} {here : Here} {lane : Lane} {path : List ℕ} {g : Stored} where
+  pub in-hand-stays : {path′ : List ℕ} → InHand s here lane path g → ((i : ℕ) → i < here .top + 1 → storedAt path′ i ≡ storedAt path i) → length path′ ≡ length path
+      → InHand s here lane path′ g
   in-hand-stays {path′} a f e =
       let o = a .on in
       let r = o .room in
       record {
         on = record { accepted = o .accepted; groups = o .groups; stands = o .stands; here = o .here; sound = o .sound; room = rw e r };
-        alike = rw (f top (omega arith)) (a .alike);
+        alike = rw (f (here .top) (omega arith)) (a .alike);
         begun = a .begun;
-        good = rw (path-stays path path′ (top + 1) f top (omega arith)) (a .good);
+        good = rw (path-stays path path′ (here .top + 1) f (here .top) (omega arith)) (a .good);
       }
 
 -- ---- one is listed
@@ -170,7 +218,10 @@ assigned-few family xs top s n h k =
     let v = pieces-length xs top in
     omega arith
 
-pub given-told : (family : ℕ) (path slot out : List ℕ) (top : ℕ) (s : Segment) (l : Told) (slot′ out′ : List ℕ) (n : ℕ) (x : Listing)
-    → Entered (assigned family path top s) slot out slot′ out′ (l .listing) x → length slot′ ≡ length slot
-    → Given family path slot out top s l slot′ out′ (record { listing = x; deep = l .deep })
-given-told family path slot out top s l slot′ out′ n x h e = record { lists = handed-gathered (h .handed); deep = refl; longSlot = e }
+module _ (family : ℕ) (path slot out : List ℕ) (top : ℕ) (s : Segment) (l : Told) where
+  pub given-told : (slot′ out′ : List ℕ) (n : ℕ) (x : Listing) → Entered (assigned family path top s) slot out slot′ out′ (l .listing) x → length slot′ ≡ length slot
+      → Given family path slot out top s l slot′ out′ (record { listing = x; looks = l .looks; deep = l .deep })
+  given-told slot′ out′ n x h e = record { lists = handed-gathered (h .handed); deep = refl; looks = refl; longSlot = e }
+
+  pub given-full : l .listing .full ≡ true → l .listing .words ≤ length out → l .listing .written ≤ l .listing .words → Given family path slot out top s l slot out l
+  given-full e h k = record { lists = gathered-full (encode (assigned family path top s) ∷ []) e h k; deep = refl; looks = refl; longSlot = refl }

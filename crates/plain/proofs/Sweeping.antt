@@ -4,7 +4,7 @@ use native.Mathlib.Omega.{arith}
 use native.Mathlib.Nat.{zero-add}
 use native.Mathlib.Numerals.{add-one}
 use mathlib.Core.Path.{_≡_, refl, sym, _∙_, ap, subst}
-use mathlib.Core.Bool.{Bool, true, false, _||_}
+use mathlib.Core.Bool.{Bool, true, false, true≢false, _||_}
 use mathlib.Core.List.{List, [], _∷_, _++_, map, append-assoc, append-nil}
 use lib.Dec.{eqb}
 use lib.ListN.{length, take, drop, getD}
@@ -34,14 +34,15 @@ use Rattle.advance.specs.Inner.{Child, childOf}
 use Rattle.advance.proofs.Laws.{paths-are, path-named, path-some}
 use Rattle.listing.specs.declared.Listing.{Listing}
 use Rattle.listing.specs.Inner.{listsFrom, filledWith, toList, noneListed}
+use Rattle.plain.specs.declared.Here.{Here}
 use Rattle.plain.specs.declared.Told.{Told}
 use Rattle.plain.specs.declared.PlainReply.{PlainReply}
 use Rattle.plain.specs.Steps.{depth, Mark, Marks, gives, tooDeep, listed, goesTooDeep, placeMarks, ofFamily, familyMarks, marksFrom, plainMarks, plainList, plainRefusal}
-use Rattle.plain.specs.Inner.{slotWords, assignmentOf, wordsOf, Gathered, Standing, Stepped, nextStep, comeTo, Rooted, Ample, Swept, Replied}
+use Rattle.plain.specs.Inner.{slotWords, assignmentOf, wordsOf, looking, listingFrom, Gathered, Tells, Standing, Stepped, comeTo, placeTells, Rooted, Ample, Swept, Replied}
 use Rattle.plain.specs.Answer.{plainAnswer, plainOut}
 use borrow.Author.Tests.{ne-eqb}
 use Rattle.evaluate.proofs.Native.{checked-none}
-use Rattle.plain.proofs.Gathering.{listed-join, gathered-none, gathered-then, deep-join, or-left}
+use Rattle.plain.proofs.Gathering.{listed-join, tells-none, tells-then}
 
 -- ---- a family's root
 
@@ -71,15 +72,21 @@ map-join : (l m : List Assignment) → map encode (l ++ m) ≡ map encode l ++ m
 map-join [] m = refl
 map-join (x ∷ l) m = ap (λ r. encode x ∷ r) (map-join l m)
 
-module _ {out o₁ o₂ : List ℕ} {l l₁ l₂ : Told} where
-  swept-then : (m n : List (Mark Assignment)) → Swept out l m o₁ l₁ → Swept o₁ l₁ n o₂ l₂ → Swept out l (m ++ n) o₂ l₂
-  swept-then m n a b =
-      record {
-        lists = λ e. rw (listed-join m n, map-join (listed m) (listed n)) (gathered-then (a .lists (or-left (l₁ .deep) (goesTooDeep n) (sym (b .deep) ∙ e))) (b .lists e));
-        deep = b .deep ∙ ap (λ x. x || goesTooDeep n) (a .deep) ∙ deep-join (l .deep) m n;
-      }
+abbrev wordsIn : List (Mark Assignment) → List (List ℕ)
+wordsIn marks = map encode (listed marks)
+
+wordless : wordsIn [] ≡ []
+unfolding listed
+wordless = refl
+
+words-join : (m n : List (Mark Assignment)) → wordsIn (m ++ n) ≡ wordsIn m ++ wordsIn n
+words-join m n = ap (map encode) (listed-join m n) ∙ map-join (listed m) (listed n)
 
 module _ (s : List ℕ) (h : Header) where
+  -- where a family's step stands
+  abbrev outset : Family → Here
+  outset family = record { h = h; family = family; top = 0; left = depth }
+
   families-are : Accepted s h → length (panelOf s .families) ≡ h .families
   families-are acc = ap length (panel-families s h (acc .counted .framed)) ∙ families-length s h
 
@@ -100,24 +107,20 @@ module _ (s : List ℕ) (h : Header) where
       record { onward = λ o₂ q t. rw e at t; few = omega arith; starts = refl; known = k; ample = a; longPath = refl; longSlot = refl; longOut = refl }
 
   module _ {path slot out : List ℕ} {l : Told} {memo p₁ s₁ o₁ : List ℕ} {n start : ℕ} {r : Told} (u : Sweeping path slot out l memo p₁ s₁ o₁ n start r) where
-    pub sweeping-standing : {starts : List ℕ} (family : Family) → Accepted s h → Started s h starts → Groups s h family → Standing s h starts memo family p₁ s₁ o₁ 0 64 r
+    pub sweeping-standing : {starts : List ℕ} (family : Family) → Accepted s h → Started s h starts → Groups s h family → Standing s starts memo p₁ s₁ o₁ (outset family) r
     sweeping-standing family acc st gs =
         let a = u .ample in
         let b = a .pieces in
         record { accepted = acc; started = st; known = u .known; groups = gs; room = omega arith; few = omega arith; scratch = a .scratch; within = a .within; written = a .written }
 
     pub sweeping-done : h .families ≤ n → Swept out l (plainMarks (panelOf s)) o₁ r
-    unfolding marksFrom listed goesTooDeep
+    unfolding marksFrom
     sweeping-done k =
         let e : h .families - n ≡ 0 = omega arith in
-        u .onward o₁ r (rw e (record { lists = λ z. gathered-none (u .ample .within) (u .ample .written); deep = or-none (r .deep) }))
-      where
-        or-none : (b : Bool) → b ≡ (b || false)
-        or-none true = refl
-        or-none false = refl
+        u .onward o₁ r (rw e (tells-none wordsIn wordless words-join (u .ample .within) (u .ample .written)))
 
     pub sweeping-next : {memo₂ p₂ s₂ o₂ : List ℕ} {q : Told} (family : Family) (c : Stored) (next : ℕ) → n < h .families → family .number ≡ n → Rooted s h family c
-        → Stepped s h (family .number) 0 p₁ s₁ o₁ r (nextStep s family 64 (comeTo p₁ 0 c)) memo₂ p₂ s₂ o₂ q → next ≡ sum (take (family .number + 1) (pathCounts h s))
+        → Stepped s (outset family) p₁ s₁ o₁ r (placeTells s (outset family) p₁ c) memo₂ p₂ s₂ o₂ q → next ≡ sum (take (family .number + 1) (pathCounts h s))
         → Sweeping path slot out l memo₂ p₂ s₂ o₂ (n + 1) next q
     unfolding marksFrom familyMarks
     sweeping-next {memo₂} {p₂} {s₂} {o₂} {q} family c next lt num rooted t e =
@@ -131,11 +134,16 @@ module _ (s : List ℕ) (h : Header) where
         let spot : comeTo p₁ 0 c ≡ first = ap (λ f. f .place) (frame-root p₁ c (omega arith)) ∙ ap (λ (z : Stored). frameWith noPath z .place) (rooted .is) in
         let told : Marks = placeMarks p (pathsAt p (family .number)) 64 first in
         let mine : Swept o₁ r (map (ofFamily (family .number)) told) o₂ q
-        = record { lists = λ z. rw (← (family-words (family .number) told)) (rw spot at (t .lists z)); deep = rw (← (family-deep (family .number) told)) (rw spot at (t .deep)) } in
+        = record {
+          lists = λ z. rw (← (family-words (family .number) told)) (rw spot at (t .tells .lists z));
+          deep = rw (← (family-deep (family .number) told)) (rw spot at (t .tells .deep));
+          stays = t .tells .stays;
+          looks = t .tells .looks;
+        } in
         let mine′ : Swept o₁ r (familyMarks p n) o₂ q = rw num at mine in
         let k : h .families - n ≡ suc (h .families - suc n) = omega arith in
         record {
-          onward = λ o₃ q₃ w. u .onward o₃ q₃ (rw k (swept-then (familyMarks p n) (marksFrom p (h .families - suc n) (suc n)) mine′ (rw add-one at w)));
+          onward = λ o₃ q₃ w. u .onward o₃ q₃ (rw k (tells-then wordsIn wordless words-join mine′ (rw add-one at w)));
           few = omega arith;
           starts = e ∙ ap (λ (m : ℕ). sum (take (m + 1) (pathCounts h s))) num;
           known = t .known;
@@ -166,9 +174,12 @@ unfolding fitting
 none-left room true skip words = refl
 none-left room false skip words = rw (drop-none skip) refl
 
-module _ (p : Panel) (from : ℕ) (out out′ : List ℕ) (r : Told) (t : Swept out (record { listing = noneListed from; deep = false }) (plainMarks p) out′ r) (flat-told : goesTooDeep (plainMarks p) ≡ false) where
+module _ (p : Panel) (from : ℕ) (out out′ : List ℕ) (l r : Told) (is : l ≡ listingFrom from) (swept : Swept out l (plainMarks p) out′ r) (flat-told : goesTooDeep (plainMarks p) ≡ false) where
+  t : Swept out (listingFrom from) (plainMarks p) out′ r
+  t = subst (λ (x : Told). Swept out x (plainMarks p) out′ r) is swept
+
   mine : Gathered (map encode (listed (plainMarks p))) out out′ (noneListed from) (r .listing)
-  mine = t .lists (t .deep ∙ flat-told)
+  mine = t .lists (t .deep (λ z. flat-told) ∙ flat-told)
 
   abbrev told : List (List ℕ)
   told = written from (length out) (plainList p)
@@ -210,9 +221,18 @@ module _ (p : Panel) (from : ℕ) (out out′ : List ℕ) (r : Told) (t : Swept 
 pub replied-deep : (p : Panel) (from : ℕ) (out : List ℕ) (q : PlainReply) → goesTooDeep (plainMarks p) ≡ true → q ≡ record { refusal = 42; place = 0; written = 0; words = 0 } → Replied p from out out q
 replied-deep p from out q d e = record { reply = rw d e; room = rw d refl }
 
--- the first sweep's mark
-pub look-told : (p : Panel) (from : ℕ) (out out′ : List ℕ) (r : Told) (b : Bool) → Swept out (record { listing = noneListed from; deep = false }) (plainMarks p) out′ r → r .deep ≡ b → goesTooDeep (plainMarks p) ≡ b
-look-told p from out out′ r b t e = sym (t .deep) ∙ e
+-- nothing is listed at the outset
+pub look-fresh : (l : Told) → l ≡ looking → (l .listing .words ≡ 0) × (l .listing .written ≡ 0)
+look-fresh l e = rw e (refl, refl)
+
+pub list-fresh : (from : ℕ) (l : Told) → l ≡ listingFrom from → (l .listing .words ≡ 0) × (l .listing .written ≡ 0)
+list-fresh from l e = rw e (refl, refl)
+
+-- what the first sweep tells
+pub look-told : (p : Panel) (out out′ : List ℕ) (l r : Told) (b : Bool) → l ≡ looking → Swept out l (plainMarks p) out′ r → r .deep ≡ b → goesTooDeep (plainMarks p) ≡ b
+look-told p out out′ l r b q t e =
+    let t′ : Swept out looking (plainMarks p) out′ r = subst (λ (x : Told). Swept out x (plainMarks p) out′ r) q t in
+    sym (t′ .deep (λ z. absurd (true≢false z))) ∙ e
 
 module _ (s : List ℕ) (from : ℕ) (out out′ : List ℕ) (h : Header) (q : PlainReply) (o : Opened) (is : o ≡ checked s) (good : o ≡ Good h) (t : Replied (panelOf s) from out out′ q) where
   accepts : panelRefusal s ≡ 0

@@ -1,6 +1,6 @@
 use borrow.Author.Needs.{needs}
 use Rattle.listing.proofs.Rest.{entered-told, some-words, words-within}
-use Rattle.plain.proofs.Gathering.{assigned-few, given-told}
+use Rattle.plain.proofs.Gathering.{assigned-few, given-told, given-full}
 use Rattle.plain.proofs.give.Statement.{statement}
 use Rattle.plain.proofs.give.Tie as tie
 
@@ -8,6 +8,7 @@ pub give-spec : {M : Type 1} → statement M
 give-spec =
     tie.close
     (tie.spec
+    (λ c. search given-full)  -- returns
     (λ c κs. (search needs, search assigned-few))  -- put-path-requires
     (λ c κs. (search (words-within, assigned-few), search needs, search needs, search some-words))  -- hand-over-requires
     (λ c. search needs)  -- same-length

@@ -1,4 +1,5 @@
 use borrow.Author.Needs.{needs}
+use native.Mathlib.Omega.{arith}
 use Rattle.landings.proofs.Laws.{known-none}
 use Rattle.plain.proofs.sweep.Statement.{statement}
 use Rattle.plain.proofs.sweep.Tie as tie
@@ -11,8 +12,8 @@ sweep-spec =
     (λ c κs. search needs)  -- no-memo-requires
     (λ c κs. search needs)  -- path-room-requires
     (λ c κs. search needs)  -- slot-room-requires
-    (λ c. search needs)  -- slice-aggregate-list-families
-    (λ c. search needs)  -- slice-aggregate-list-families-2
-    (λ c κs. let x = c .before .before .before .before .before .before .path-room .ensures in let y = c .before .before .before .before .before .slot-room .ensures in (c .before .before .before .before .before .before .before .before .before .before .before .pre, c .before .before .before .before .before .before .before .before .lane-starts .ensures, known-none _ _ _ (c .before .before .before .before .before .before .before .no-memo .ensures), record { pieces = search needs; scratch = search needs; within = search needs; written = search needs }))  -- list-families-requires
+    (λ c. search needs)  -- slice-aggregate-sweep-families
+    (λ c. search needs)  -- slice-aggregate-sweep-families-2
+    (λ c κs. let x = c .before .before .before .before .before .before .path-room .ensures in let y = c .before .before .before .before .before .slot-room .ensures in let P = c .before .before .before .before .before .before .before .before .before .before .before .pre in let w = P .1 in let n = P .2 in (P .0, c .before .before .before .before .before .before .before .before .lane-starts .ensures, known-none _ _ _ (c .before .before .before .before .before .before .before .no-memo .ensures), record { pieces = search needs; scratch = search needs; within = omega arith; written = omega arith }))  -- sweep-families-requires
     (λ c. search needs)  -- same-length
     (λ c. search needs))  -- returns

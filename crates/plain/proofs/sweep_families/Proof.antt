@@ -2,8 +2,8 @@ use borrow.Author.Needs.{needs}
 use native.Mathlib.Omega.{arith}
 use Prim.Native.Nat.{_-_}
 use Rattle.plain.proofs.Sweeping.{Sweeping, sweeping-start, sweeping-standing, sweeping-next, sweeping-done}
-use Rattle.plain.proofs.list_families.Statement.{statement}
-use Rattle.plain.proofs.list_families.Tie as tie
+use Rattle.plain.proofs.sweep_families.Statement.{statement}
+use Rattle.plain.proofs.sweep_families.Tie as tie
 
 abbrev Inv-loop : tie.InvT-loop
 Inv-loop image h starts memo₀ path₀ slot₀ out₀ told₀ n₀ start₀ memo path slot out told n start = Sweeping image h path₀ slot₀ out₀ told₀ memo path slot out n start told
@@ -11,8 +11,8 @@ Inv-loop image h starts memo₀ path₀ slot₀ out₀ told₀ n₀ start₀ mem
 abbrev μ-loop : tie.MeasureT-loop
 μ-loop image h starts memo₀ path₀ slot₀ out₀ told₀ n₀ start₀ memo path slot out told n start = h .families - n
 
-pub list-families-spec : {M : Type 1} → statement M
-list-families-spec =
+pub sweep-families-spec : {M : Type 1} → statement M
+sweep-families-spec =
     tie.close
     (tie.spec Inv-loop μ-loop
     (λ c. let P = c .before .before .before .before .pre in sweeping-start _ _ (P .0) (P .2) (P .3))  -- loop-holds
