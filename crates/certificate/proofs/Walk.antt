@@ -13,14 +13,14 @@ use Rattle.evaluate.specs.Legal.{Legal}
 use Rattle.evaluate.proofs.Native.{native-legal}
 use Rattle.search.specs.Run.{Walk, unlimited, nativesOf, outset}
 use Rattle.evaluate.proofs.Lists.{mem-map, pairs-neighbours}
-use Rattle.enumeration.proofs.Accepted.{accepted-ends}
+use Rattle.enumeration.proofs.Accepted.{accepted-unbudgeted, accepted-found, found-out, found-legal, found-once, found-in-order}
 use Rattle.enumeration.proofs.Suffice.{one-end, ends-iff, ends-as}
 use Rattle.certificate.specs.Terms.{PanelAccepted, NativesThenLegal}
 use Rattle.certificate.specs.Demand3.{WalkEnds, WholeWalk, ExhaustedWhenEnough, AllEvaluated}
 use Rattle.certificate.proofs.Reply.{some-frontier, admitted-passes, exhausted-iff}
 
 pub walk-ends : WalkEnds
-walk-ends s e = let r = accepted-ends s e in record { steps = r .run .0; final = r .final; ends = r .run .1 }
+walk-ends = accepted-unbudgeted
 
 pub exhausted-when-enough : ExhaustedWhenEnough
 exhausted-when-enough s b xs rooms given u =
@@ -30,15 +30,7 @@ exhausted-when-enough s b xs rooms given u =
 
 pub whole-walk : WholeWalk
 whole-walk s e u =
-    let r = accepted-ends s e in
-    let same = one-end (panelOf s) unlimited (u .steps) (r .run .0) (outset (panelOf s)) (u .final) (r .final) (u .ends) (r .run .1) in
-    record {
-      found = r .found;
-      first = ap (λ (w : Walk). w .out) same ∙ r .out;
-      legal = λ a. (λ m. r .each .legal a .0 m .legal, λ l. r .each .legal a .1 (record { from = omega arith; legal = l }));
-      once = r .each .once;
-      inOrder = pairs-neighbours (λ (a c : Assignment). a .family ≤ c .family) (r .found) (r .each .inOrder);
-    }
+    record { found = accepted-found s e; first = found-out s e u; legal = found-legal s e; once = found-once s e; inOrder = found-in-order s e }
 
 pub all-evaluated-once : AllEvaluated
 all-evaluated-once s b xs rooms given h =

@@ -4,7 +4,8 @@ use native.Mathlib.Omega.{arith}
 use native.Mathlib.Decide.{decLt}
 use mathlib.Core.Path.{_≡_, refl, sym, _∙_, ap, subst}
 use mathlib.Core.Bool.{true}
-use mathlib.Core.List.{List, []}
+use mathlib.Core.Logic.{_↔_}
+use mathlib.Core.List.{List, [], _++_, List·Memᴰ}
 use lib.Dec.{leb, eqb}
 use lib.ListN.{length, take, getD, List·getD-eq-default}
 use borrow.Author.Tests.{ltb-true, lt-ltb, leb-true}
@@ -22,11 +23,14 @@ use Rattle.families.specs.Families.{countOk, sound5a, sound5b, sound5}
 use Rattle.panel.specs.Inner.{Accepted}
 use Rattle.graph.specs.Check.{panelRefusal}
 use Rattle.graph.proofs.PanelLaws.{lane-source, lane-ends, lane-row-rises, hub-rises, hub-in-lane, lane-in-hub}
-use Rattle.evaluate.specs.Properties.{Pairs}
+use Rattle.evaluate.specs.Properties.{Pairs, Neighbours}
+use Rattle.evaluate.specs.Segments.{Assignment}
+use Rattle.evaluate.specs.Legal.{Legal}
 use Rattle.evaluate.proofs.Native.{taken}
-use Rattle.search.specs.Run.{untouched, seededWith, nativesOf, outset}
-use Rattle.evaluate.proofs.Lists.{rising-all}
+use Rattle.search.specs.Run.{Walk, Unbudgeted, unlimited, untouched, seededWith, nativesOf, outset}
+use Rattle.evaluate.proofs.Lists.{rising-all, pairs-neighbours}
 use Rattle.enumeration.proofs.Ports.{Sound}
+use Rattle.enumeration.proofs.Suffice.{one-end}
 use Rattle.enumeration.proofs.Whole.{Ends, walk-ends}
 
 place-chain : (p q r : Port) → placeLt p q ≡ true → placeLt q r ≡ true → placeLt p r ≡ true
@@ -80,6 +84,32 @@ accepted-ends s e =
     let t = taken s e in
     let p = panelOf s in
     walk-ends p (sound-of s (t .header) (t .accepted)) (some-path s (t .header) (t .accepted)) (seededWith untouched (nativesOf p)) refl refl
+
+pub accepted-unbudgeted : (s : List ℕ) → panelRefusal s ≡ 0 → Unbudgeted (panelOf s)
+accepted-unbudgeted s e = let r = accepted-ends s e in record { steps = r .run .0; final = r .final; ends = r .run .1 }
+
+-- what every unbudgeted walk has handed over
+module _ (s : List ℕ) (e : panelRefusal s ≡ 0) where
+  pub accepted-found : List Assignment
+  accepted-found = accepted-ends s e .found
+
+  pub found-out : (u : Unbudgeted (panelOf s)) → u .final .out ≡ nativesOf (panelOf s) ++ accepted-found
+  unfolding accepted-found
+  found-out u =
+      let r = accepted-ends s e in
+      ap (λ (w : Walk). w .out) (one-end (panelOf s) unlimited (u .steps) (r .run .0) (outset (panelOf s)) (u .final) (r .final) (u .ends) (r .run .1)) ∙ r .out
+
+  pub found-legal : (a : Assignment) → List·Memᴰ a accepted-found ↔ Legal (panelOf s) a
+  unfolding accepted-found
+  found-legal a = let r = accepted-ends s e .each .legal a in (λ m. r .0 m .legal, λ l. r .1 (record { from = omega arith; legal = l }))
+
+  pub found-once : Pairs (λ a c. a ≡ c → ⊥) accepted-found
+  unfolding accepted-found
+  found-once = accepted-ends s e .each .once
+
+  pub found-in-order : Neighbours (λ a c. a .family ≤ c .family) accepted-found
+  unfolding accepted-found
+  found-in-order = pairs-neighbours (λ (a c : Assignment). a .family ≤ c .family) (accepted-ends s e .found) (accepted-ends s e .each .inOrder)
 
 pub accepted-sound : (s : List ℕ) → panelRefusal s ≡ 0 → Sound (panelOf s)
 accepted-sound s e = let t = taken s e in sound-of s (t .header) (t .accepted)

@@ -7,7 +7,7 @@ ghost use Rattle.evaluate.specs.Check.{checkAnswer, checkOut};
 ghost use Rattle.bound.specs.Bound.{lowerBound};
 ghost use Rattle.bound.specs.Bounded.{BoundHolds};
 ghost use Rattle.search.specs.Answers.{Rooms, searchAnswer, searchRooms, ListRooms, listAnswer, listRooms};
-ghost use Rattle.plain.specs.Answer.{plainAnswer, plainOut};
+ghost use Rattle.engine.specs.Answer.{plainAnswer, plainOut, PlainHolds};
 ghost use Rattle.panel_routes.specs.Replies.{panelReply, portReply, bucketReply};
 
 // Refusal 0: none. Fields that an answer does not use are 0.
@@ -187,9 +187,10 @@ pub extern "C" fn panel_routes_plain_list(
     image: &[u8],
     from: u64,
     out: &mut [u64],
-) -> plain::PlainReply
+) -> engine::PlainReply
     ensures { λ r. ⌜ r ≡ plainAnswer (now (image .entry)) from (length (now (out .entry))) ⌝ }
     ensures { λ r. ⌜ now (out .exit) ≡ plainOut (now (image .entry)) from (now (out .entry)) ⌝ }
+    ensures { λ r. ⌜ PlainHolds (now (image .entry)) from (now (out .entry)) r (now (out .exit)) ⌝ }
 {
-    plain::list(image, from, out)
+    engine::list(image, from, out)
 }

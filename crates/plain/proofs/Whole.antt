@@ -5,7 +5,7 @@ use native.Mathlib.Nat.{zero-add}
 use native.Mathlib.Decide.{decLt}
 use mathlib.Core.Path.{_≡_, refl, sym, _∙_, ap, subst}
 use mathlib.Core.Logic.{_↔_}
-use mathlib.Core.List.{List, [], _∷_, _++_, map, append-assoc, append-nil}
+use mathlib.Core.List.{List, [], _∷_, _++_, map, append-assoc, append-nil, append-cancel-left}
 use mathlib.Core.Bool.{Bool, true, false}
 use lib.Dec.{ltb}
 use lib.ListN.{length, getD}
@@ -25,9 +25,9 @@ use Rattle.enumeration.proofs.Ports.{Sound, Ok, μ, falls}
 use Rattle.enumeration.proofs.Whole.{Counts, tag, phaseOf, units-add}
 use Rattle.enumeration.proofs.Whole as whole
 use Rattle.enumeration.proofs.Suffice.{one-end}
-use Rattle.enumeration.proofs.Accepted.{accepted-sound}
+use Rattle.enumeration.proofs.Accepted.{accepted-sound, accepted-found, found-out, found-legal, found-once}
 use Rattle.plain.specs.Steps.{depth, Mark, gives, tooDeep, placeMarks, ofFamily, familyMarks, marksFrom, plainMarks, listed, plainList, goesTooDeep, plainRefusal}
-use Rattle.plain.specs.Statement.{deepestOf, ListsTheWalk, RefusesTheDeep}
+use Rattle.plain.specs.Statement.{deepestOf, EachLegalOnce, ListsTheWalk, RefusesTheDeep, ListsEachLegalOnce}
 use Rattle.plain.proofs.Height.{height, marks-are, marks-over, deep-left, deep-right}
 use Rattle.plain.proofs.Tasks.{place-is}
 use Rattle.plain.proofs.Deepest.{Climbs, climbs, peakOn, under, deepest-add, one-depth, Reaches, family-reaches}
@@ -176,6 +176,11 @@ module _ (p : Panel) (sound : Sound p) where
 
 pub plain-lists : ListsTheWalk
 plain-lists s e u h = lists-the-walk (panelOf s) (accepted-sound s e) u h
+
+pub plain-once : ListsEachLegalOnce
+plain-once s e u h =
+    let same : accepted-found s e ≡ plainList (panelOf s) = append-cancel-left (nativesOf (panelOf s)) _ _ (sym (found-out s e u) ∙ plain-lists s e u h) in
+    subst (EachLegalOnce (panelOf s)) same (record { legal = found-legal s e; once = found-once s e })
 
 pub plain-refuses : RefusesTheDeep
 unfolding plainRefusal

@@ -1,4 +1,2 @@
 pub mod Steps
 pub mod Statement
-pub mod Inner
-pub mod Answer

@@ -1,8 +1,8 @@
 use borrow.Author.Needs.{needs}
 use native.Mathlib.Omega.{arith}
 use Rattle.landings.proofs.Laws.{known-none}
-use Rattle.plain.proofs.sweep.Statement.{statement}
-use Rattle.plain.proofs.sweep.Tie as tie
+use Rattle.engine.proofs.sweep.Statement.{statement}
+use Rattle.engine.proofs.sweep.Tie as tie
 
 pub sweep-spec : {M : Type 1} → statement M
 sweep-spec =

@@ -34,15 +34,15 @@ use Rattle.advance.specs.Inner.{Child, childOf}
 use Rattle.advance.proofs.Laws.{paths-are, path-named, path-some}
 use Rattle.listing.specs.declared.Listing.{Listing}
 use Rattle.listing.specs.Inner.{listsFrom, filledWith, toList, noneListed}
-use Rattle.plain.specs.declared.Here.{Here}
-use Rattle.plain.specs.declared.Told.{Told}
-use Rattle.plain.specs.declared.PlainReply.{PlainReply}
+use Rattle.engine.specs.declared.Here.{Here}
+use Rattle.engine.specs.declared.Told.{Told}
+use Rattle.engine.specs.declared.PlainReply.{PlainReply}
 use Rattle.plain.specs.Steps.{depth, Mark, Marks, gives, tooDeep, listed, goesTooDeep, placeMarks, ofFamily, familyMarks, marksFrom, plainMarks, plainList, plainRefusal}
-use Rattle.plain.specs.Inner.{slotWords, assignmentOf, wordsOf, looking, listingFrom, Gathered, Tells, Standing, Stepped, comeTo, placeTells, Rooted, Ample, Swept, Replied}
-use Rattle.plain.specs.Answer.{plainAnswer, plainOut}
+use Rattle.engine.specs.Inner.{slotWords, assignmentOf, wordsOf, looking, listingFrom, Gathered, Tells, Standing, Stepped, comeTo, placeTells, Rooted, Ample, Swept, Replied}
+use Rattle.engine.specs.Answer.{plainAnswer, plainOut}
 use borrow.Author.Tests.{ne-eqb}
 use Rattle.evaluate.proofs.Native.{checked-none}
-use Rattle.plain.proofs.Gathering.{listed-join, tells-none, tells-then}
+use Rattle.engine.proofs.Gathering.{listed-join, tells-none, tells-then}
 
 -- ---- a family's root
 

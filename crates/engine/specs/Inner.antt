@@ -30,10 +30,10 @@ use Rattle.walks.specs.Inner.{assigned}
 use Rattle.enumeration.proofs.Sim.{Good, remaining}
 use Rattle.listing.specs.declared.Listing.{Listing}
 use Rattle.listing.specs.Inner.{listsFrom, filledWith, noneListed}
-use Rattle.plain.specs.declared.Here.{Here}
-use Rattle.plain.specs.declared.Told.{Told}
-use Rattle.plain.specs.declared.PlainReply.{PlainReply}
+use Rattle.engine.specs.declared.Here.{Here}
+use Rattle.engine.specs.declared.Told.{Told}
+use Rattle.engine.specs.declared.PlainReply.{PlainReply}
 use Rattle.plain.specs.Steps.{depth, Mark, Marks, taskMarks, hubMarks, listed, goesTooDeep, placeMarks, plainMarks, plainList}
 
 -- a record of the path for each place, and one more
 abbrev pub pathWords : ℕ

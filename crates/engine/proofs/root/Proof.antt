@@ -1,8 +1,8 @@
 use borrow.Author.Needs.{needs}
 use Rattle.advance.proofs.Laws.{path-some}
-use Rattle.plain.proofs.Sweeping.{root-told}
-use Rattle.plain.proofs.root.Statement.{statement}
-use Rattle.plain.proofs.root.Tie as tie
+use Rattle.engine.proofs.Sweeping.{root-told}
+use Rattle.engine.proofs.root.Statement.{statement}
+use Rattle.engine.proofs.root.Tie as tie
 
 pub root-spec : {M : Type 1} → statement M
 root-spec =

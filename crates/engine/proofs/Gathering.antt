@@ -24,10 +24,10 @@ use Rattle.listing.specs.declared.Listing.{Listing}
 use Rattle.listing.specs.Inner.{Handed, Entered}
 use Rattle.listing.proofs.Rest.{entered-told}
 use Rattle.frames.specs.declared.Stored.{Stored}
-use Rattle.plain.specs.declared.Here.{Here}
-use Rattle.plain.specs.declared.Told.{Told}
+use Rattle.engine.specs.declared.Here.{Here}
+use Rattle.engine.specs.declared.Told.{Told}
 use Rattle.plain.specs.Steps.{Mark, Marks, gives, tooDeep, listed, goesTooDeep, depth}
-use Rattle.plain.specs.Inner.{slotWords, assignmentOf, wordsOf, isOver, Gathered, Tells, Standing, Stepped, Given, InHand}
+use Rattle.engine.specs.Inner.{slotWords, assignmentOf, wordsOf, isOver, Gathered, Tells, Standing, Stepped, Given, InHand}
 
 -- ---- lists
 

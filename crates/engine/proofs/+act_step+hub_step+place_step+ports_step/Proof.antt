@@ -6,38 +6,38 @@ use Rattle.image.specs.Panel.{panelOf}
 use Rattle.frames.specs.Inner.{pathAt, frameWith}
 use Rattle.frames.proofs.Laws.{length-put}
 use Rattle.enumeration.proofs.Sim.{remaining}
-use Rattle.plain.specs.Inner.{paths}
-use Rattle.plain.proofs.Gathering.{step-over, standing-next, in-hand-stays}
-use Rattle.plain.proofs.Acting.{act-down, act-give, act-pass, act-leave, hub-none, hub-one, hub-halves, part, part-hand, part-flagged, meet-ready, flagged-stays, hub-few, PortsGoing, ports-start, test-some, ports-hub, ports-flagged, ports-less, ports-next, ports-done, place-deep, put-room, place-standing, place-on, place-waits, place-acts, place-closed, place-then, place-hand, place-done}
+use Rattle.engine.specs.Inner.{paths}
+use Rattle.engine.proofs.Gathering.{step-over, standing-next, in-hand-stays}
+use Rattle.engine.proofs.Acting.{act-down, act-give, act-pass, act-leave, hub-none, hub-one, hub-halves, part, part-hand, part-flagged, meet-ready, flagged-stays, hub-few, PortsGoing, ports-start, test-some, ports-hub, ports-flagged, ports-less, ports-next, ports-done, place-deep, put-room, place-standing, place-on, place-waits, place-acts, place-closed, place-then, place-hand, place-done}
 use Prim.Native.Nat.{ℕ, _+_, _-_, _*_, _/_, _<_}
 use borrow.Fn.Kinds.{In}
 use borrow.Fn.PlainCycle.{Measures, is, falls, and}
-use Rattle.plain.proofs.act_step.Reads as act-step
-use Rattle.plain.proofs.act_step.Kinds as act-step-kinds
-use Rattle.plain.proofs.+act_step+hub_step+place_step+ports_step.Lts-act_step as act-step-lts
-use Rattle.plain.proofs.hub_step.Reads as hub-step
-use Rattle.plain.proofs.hub_step.Kinds as hub-step-kinds
-use Rattle.plain.proofs.+act_step+hub_step+place_step+ports_step.Lts-hub_step as hub-step-lts
-use Rattle.plain.proofs.place_step.Reads as place-step
-use Rattle.plain.proofs.place_step.Kinds as place-step-kinds
-use Rattle.plain.proofs.+act_step+hub_step+place_step+ports_step.Lts-place_step as place-step-lts
-use Rattle.plain.proofs.ports_step.Reads as ports-step
-use Rattle.plain.proofs.ports_step.Kinds as ports-step-kinds
-use Rattle.plain.proofs.+act_step+hub_step+place_step+ports_step.Lts-ports_step as ports-step-lts
+use Rattle.engine.proofs.act_step.Reads as act-step
+use Rattle.engine.proofs.act_step.Kinds as act-step-kinds
+use Rattle.engine.proofs.+act_step+hub_step+place_step+ports_step.Lts-act_step as act-step-lts
+use Rattle.engine.proofs.hub_step.Reads as hub-step
+use Rattle.engine.proofs.hub_step.Kinds as hub-step-kinds
+use Rattle.engine.proofs.+act_step+hub_step+place_step+ports_step.Lts-hub_step as hub-step-lts
+use Rattle.engine.proofs.place_step.Reads as place-step
+use Rattle.engine.proofs.place_step.Kinds as place-step-kinds
+use Rattle.engine.proofs.+act_step+hub_step+place_step+ports_step.Lts-place_step as place-step-lts
+use Rattle.engine.proofs.ports_step.Reads as ports-step
+use Rattle.engine.proofs.ports_step.Kinds as ports-step-kinds
+use Rattle.engine.proofs.+act_step+hub_step+place_step+ports_step.Lts-ports_step as ports-step-lts
 use Rattle.advance.proofs.enter.Reads as enter-reads
 use Rattle.advance.proofs.meet.Reads as meet-reads
 use Rattle.advance.proofs.pass_port.Reads as pass-port-reads
 use Rattle.advance.proofs.terminal_unit.Reads as terminal-unit-reads
 use Rattle.frames.proofs.put_frame.Reads as put-frame-reads
 use Rattle.image.proofs.lane_of.Reads as lane-of-reads
-use Rattle.plain.proofs.give.Reads as give-reads
-use Rattle.plain.proofs.has_port.Reads as has-port-reads
-use Rattle.plain.proofs.in_reach.Reads as in-reach-reads
-use Rattle.plain.proofs.is_over.Reads as is-over-reads
-use Rattle.plain.proofs.shut.Reads as shut-reads
-use Rattle.plain.proofs.too_deep.Reads as too-deep-reads
-use Rattle.plain.proofs.+act_step+hub_step+place_step+ports_step.{statement}
-use Rattle.plain.proofs.+act_step+hub_step+place_step+ports_step.Tie.{close}
+use Rattle.engine.proofs.give.Reads as give-reads
+use Rattle.engine.proofs.has_port.Reads as has-port-reads
+use Rattle.engine.proofs.in_reach.Reads as in-reach-reads
+use Rattle.engine.proofs.is_over.Reads as is-over-reads
+use Rattle.engine.proofs.shut.Reads as shut-reads
+use Rattle.engine.proofs.too_deep.Reads as too-deep-reads
+use Rattle.engine.proofs.+act_step+hub_step+place_step+ports_step.{statement}
+use Rattle.engine.proofs.+act_step+hub_step+place_step+ports_step.Tie.{close}
 
 abbrev μ-act-step : Measures 6 act-step-kinds.ps ℕ
 μ-act-step κs a = (a .1 .1 .1 .1 .1 .1 .0 .left) * 8388608

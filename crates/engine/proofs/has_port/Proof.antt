@@ -1,7 +1,7 @@
 use borrow.Author.Needs.{needs}
-use Rattle.plain.proofs.Acting.{port-over, port-none, port-some}
-use Rattle.plain.proofs.has_port.Statement.{statement}
-use Rattle.plain.proofs.has_port.Tie as tie
+use Rattle.engine.proofs.Acting.{port-over, port-none, port-some}
+use Rattle.engine.proofs.has_port.Statement.{statement}
+use Rattle.engine.proofs.has_port.Tie as tie
 
 pub has-port-spec : {M : Type 1} → statement M
 has-port-spec =

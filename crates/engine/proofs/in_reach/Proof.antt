@@ -1,7 +1,7 @@
 use borrow.Author.Needs.{needs}
-use Rattle.plain.proofs.Acting.{reach-shut}
-use Rattle.plain.proofs.in_reach.Statement.{statement}
-use Rattle.plain.proofs.in_reach.Tie as tie
+use Rattle.engine.proofs.Acting.{reach-shut}
+use Rattle.engine.proofs.in_reach.Statement.{statement}
+use Rattle.engine.proofs.in_reach.Tie as tie
 
 pub in-reach-spec : {M : Type 1} → statement M
 in-reach-spec =

@@ -40,13 +40,13 @@ use Rattle.advance.specs.Inner.{On, Child, Flagged, Sound, Meets, Turned, taskO
 use Rattle.advance.proofs.Laws.{enter-child, enter-alike, enter-sound, leave-none, leave-past, count-here}
 use Rattle.enumeration.proofs.Sim.{tasksOf, remaining, Good, Does, NextIn, hubTasks, over, unit-does, enter-tasks}
 use Rattle.enumeration.proofs.Stack.{enter-good}
-use Rattle.plain.specs.declared.Here.{Here}
-use Rattle.plain.specs.declared.Told.{Told}
+use Rattle.engine.specs.declared.Here.{Here}
+use Rattle.engine.specs.declared.Told.{Told}
 use Rattle.plain.specs.Steps.{Mark, Marks, gives, tooDeep, taskMarks, hubMarks, placeMarks, listed, goesTooDeep}
-use Rattle.plain.specs.Inner.{wordsOf, isOver, below, paths, next, comeTo, placeTells, actTells, hubTells, portsTell, throughMarks, hasPort, inReach, Gathered, Tells, Standing, Stepped, Given, Acts, InHand}
+use Rattle.engine.specs.Inner.{wordsOf, isOver, below, paths, next, comeTo, placeTells, actTells, hubTells, portsTell, throughMarks, hasPort, inReach, Gathered, Tells, Standing, Stepped, Given, Acts, InHand}
 use Rattle.plain.proofs.Height.{marksThrough, marks}
 use Rattle.plain.proofs.Tasks.{place-is, hub-tasks}
-use Rattle.plain.proofs.Gathering.{or-none, step-none, step-over, step-then, path-stays, standing-next, in-hand-stays}
+use Rattle.engine.proofs.Gathering.{or-none, step-none, step-over, step-then, path-stays, standing-next, in-hand-stays}
 
 or-true : (b : Bool) → (b || true) ≡ true
 or-true true = refl

@@ -1,8 +1,8 @@
 use borrow.Author.Needs.{needs}
 use Rattle.listing.proofs.Rest.{entered-told, some-words, words-within}
-use Rattle.plain.proofs.Gathering.{assigned-few, given-told, given-full}
-use Rattle.plain.proofs.give.Statement.{statement}
-use Rattle.plain.proofs.give.Tie as tie
+use Rattle.engine.proofs.Gathering.{assigned-few, given-told, given-full}
+use Rattle.engine.proofs.give.Statement.{statement}
+use Rattle.engine.proofs.give.Tie as tie
 
 pub give-spec : {M : Type 1} → statement M
 give-spec =

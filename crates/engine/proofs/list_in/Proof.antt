@@ -1,7 +1,7 @@
 use borrow.Author.Needs.{needs}
-use Rattle.plain.proofs.Sweeping.{look-fresh, list-fresh, look-told, replied-deep, replied-told}
-use Rattle.plain.proofs.list_in.Statement.{statement}
-use Rattle.plain.proofs.list_in.Tie as tie
+use Rattle.engine.proofs.Sweeping.{look-fresh, list-fresh, look-told, replied-deep, replied-told}
+use Rattle.engine.proofs.list_in.Statement.{statement}
+use Rattle.engine.proofs.list_in.Tie as tie
 
 pub list-in-spec : {M : Type 1} → statement M
 list-in-spec =

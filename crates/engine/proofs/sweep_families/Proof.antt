@@ -1,9 +1,9 @@
 use borrow.Author.Needs.{needs}
 use native.Mathlib.Omega.{arith}
 use Prim.Native.Nat.{_-_}
-use Rattle.plain.proofs.Sweeping.{Sweeping, sweeping-start, sweeping-standing, sweeping-next, sweeping-done}
-use Rattle.plain.proofs.sweep_families.Statement.{statement}
-use Rattle.plain.proofs.sweep_families.Tie as tie
+use Rattle.engine.proofs.Sweeping.{Sweeping, sweeping-start, sweeping-standing, sweeping-next, sweeping-done}
+use Rattle.engine.proofs.sweep_families.Statement.{statement}
+use Rattle.engine.proofs.sweep_families.Tie as tie
 
 abbrev Inv-loop : tie.InvT-loop
 Inv-loop image h starts memo₀ path₀ slot₀ out₀ told₀ n₀ start₀ memo path slot out told n start = Sweeping image h path₀ slot₀ out₀ told₀ memo path slot out n start told

@@ -1,0 +1,4 @@
+pub mod Gathering
+pub mod Acting
+pub mod Sweeping
+pub mod Promise
