@@ -1,8 +1,8 @@
 -- The walk's part of demand 3: it ends, it reports exhaustion exactly when its budgets suffice, and then it has evaluated one native
 -- per family and after them each legal assignment once.
-use Prim.Native.Nat.{ℕ, zero, suc, _+_, _≤_, _<_}
+use Prim.Native.Nat.{ℕ, zero, suc, _+_, _<_}
 use native.Mathlib.Omega.{arith}
-use mathlib.Core.Path.{sym, ap, _∙_, subst}
+use mathlib.Core.Path.{sym, subst}
 use mathlib.Core.Logic.{⊎-elim}
 use mathlib.Core.List.{List, List·Memᴰ, List·Memᴰ·not-nil, List·Memᴰ·cases-cons, List·Memᴰ·append-cases}
 use lib.ListN.{length}
@@ -11,10 +11,10 @@ use Rattle.image.specs.Panel.{panelOf}
 use Rattle.evaluate.specs.Segments.{Assignment, nativeOf}
 use Rattle.evaluate.specs.Legal.{Legal}
 use Rattle.evaluate.proofs.Native.{native-legal}
-use Rattle.search.specs.Run.{Walk, unlimited, nativesOf, outset}
-use Rattle.evaluate.proofs.Lists.{mem-map, pairs-neighbours}
+use Rattle.search.specs.Run.{Walk, nativesOf}
+use Rattle.evaluate.proofs.Lists.{mem-map}
 use Rattle.enumeration.proofs.Accepted.{accepted-unbudgeted, accepted-found, found-out, found-legal, found-once, found-in-order}
-use Rattle.enumeration.proofs.Suffice.{one-end, ends-iff, ends-as}
+use Rattle.enumeration.proofs.Suffice.{ends-iff, ends-as}
 use Rattle.certificate.specs.Terms.{PanelAccepted, NativesThenLegal}
 use Rattle.certificate.specs.Demand3.{WalkEnds, WholeWalk, ExhaustedWhenEnough, AllEvaluated}
 use Rattle.certificate.proofs.Reply.{some-frontier, admitted-passes, exhausted-iff}

@@ -1,56 +1,50 @@
 -- Laws of the steps, one for each way through the code.
 use Prim.Native.Nat.{ℕ, zero, suc, _+_, _-_, _*_, _≤_, _<_}
 use native.Mathlib.Omega.{arith}
-use native.Mathlib.Numerals.{add-one}
 use mathlib.Core.Path.{_≡_, refl, sym, _∙_, ap, subst}
 use mathlib.Core.Bool.{Bool, true, false, true≢false, not, _||_}
-use mathlib.Core.List.{List, [], _∷_, _++_, map, append-assoc, append-nil}
+use mathlib.Core.List.{List, [], _∷_, _++_, append-assoc, append-nil}
 use lib.Dec.{leb, ltb, eqb}
-use lib.ListN.{length, take, drop, getD, drop-of-length-le, length-take, length-append}
+use lib.ListN.{length, take, getD, drop-of-length-le, length-take, length-append}
 use lib.Seq.{slice, slice-cons, slice-empty}
 use borrow.Author.Tests.{eq-eqb, ne-eqb, le-ltb, lt-ltb, ltb-false, leb-true, leb-false, eqb-true, eqb-false}
-use Rattle.ground.specs.Lists.{pick, sum}
-use Rattle.ground.proofs.ListLaws.{split-length}
+use Rattle.ground.specs.Lists.{pick}
 use Rattle.storage.specs.declared.Port.{Port}
 use Rattle.storage.specs.Records.{noPort}
 use Rattle.image.specs.declared.Header.{Header}
 use Rattle.image.specs.declared.Family.{Family}
 use Rattle.image.specs.declared.Lane.{Lane}
-use Rattle.image.specs.Image.{counts, lanePorts, portsOf}
+use Rattle.image.specs.Image.{portsOf}
 use Rattle.image.specs.Inner.{Stands}
-use Rattle.image.specs.Panel.{Panel, panelOf, pathsAt, laneAt}
+use Rattle.image.specs.Panel.{Panel, panelOf, pathsAt}
 use Rattle.image.proofs.Laws.{panel-ports, panel-hub, hub-length, row-length}
 use Rattle.panel.specs.Inner.{Accepted}
 use Rattle.evaluate.specs.declared.Segment.{Segment}
-use Rattle.search.specs.Walk.{Place, Frame, Task, pass, down, give, Doing, Act, leave, doing, enter, unitOf, portUnit, terminalTask, memberTask, moved, opening, nextPort, spent, outgoing, hubOpen, portsHere}
+use Rattle.search.specs.Walk.{Place, Frame, pass, down, give, Doing, doing, enter, unitOf, portUnit, terminalTask, memberTask, moved, opening, nextPort, spent, outgoing, hubOpen, portsHere}
 use Rattle.search.specs.Walk.{onward, reach, onPath, samePlace}
 use Rattle.evaluate.specs.Segments.{clear}
 use Rattle.storage.specs.Records.{sameTurn}
 use Rattle.graph.specs.Lookups.{bucketLo, bucketHi}
-use mathlib.Core.Logic.{_⊎_, inl, inr}
 use Rattle.search.specs.Rooms.{frameWidth}
 use Rattle.frames.specs.declared.Stored.{Stored}
-use Rattle.frames.specs.Inner.{Path, longer, pathTo, pathAt, storedAt, placeWith, frameWith, frameOf, put, Alike}
+use Rattle.frames.specs.Inner.{Path, pathTo, pathAt, storedAt, placeWith, frameWith, frameOf, put, Alike}
 use Rattle.frames.proofs.Laws.{length-put, stored-same, stored-below, frame-push, alike-below}
 use Rattle.landings.specs.Inner.{Known}
 use Rattle.advance.specs.declared.Action.{Action}
 use Rattle.advance.specs.declared.Action.the-variants.{Leave, Pass, Down, Give}
 use Rattle.advance.specs.declared.Turn.{Turn}
 use Rattle.advance.specs.Inner.{On, Child, Flagged, Sound, Meets, Turned, taskOf, actOf, movedTo, entered}
-use Rattle.advance.proofs.Laws.{enter-child, enter-alike, enter-sound, leave-none, leave-past, count-here}
-use Rattle.enumeration.proofs.Sim.{tasksOf, remaining, Good, Does, NextIn, hubTasks, over, unit-does, enter-tasks}
+use Rattle.advance.proofs.Laws.{enter-child, enter-alike, enter-sound, leave-none, leave-past}
+use Rattle.enumeration.proofs.Sim.{tasksOf, remaining, Good, Does, hubTasks, unit-does, enter-tasks}
 use Rattle.enumeration.proofs.Stack.{enter-good}
 use Rattle.engine.specs.declared.Here.{Here}
 use Rattle.engine.specs.declared.Told.{Told}
-use Rattle.plain.specs.Steps.{Mark, Marks, gives, tooDeep, taskMarks, hubMarks, placeMarks, listed, goesTooDeep}
-use Rattle.engine.specs.Inner.{wordsOf, isOver, below, paths, next, comeTo, placeTells, actTells, hubTells, portsTell, throughMarks, hasPort, inReach, Gathered, Tells, Standing, Stepped, Given, Acts, InHand}
+use Rattle.plain.specs.Steps.{Marks, gives, taskMarks, hubMarks, placeMarks, listed, goesTooDeep}
+use Rattle.engine.specs.Inner.{wordsOf, isOver, below, paths, next, comeTo, placeTells, actTells, hubTells, portsTell, throughMarks, hasPort, inReach, Standing, Stepped, Given, Acts, InHand}
+use Rattle.plain.proofs.Marks.{or-true}
 use Rattle.plain.proofs.Height.{marksThrough, marks}
 use Rattle.plain.proofs.Tasks.{place-is, hub-tasks}
 use Rattle.engine.proofs.Gathering.{or-none, step-none, step-over, step-then, path-stays, standing-next, in-hand-stays}
-
-or-true : (b : Bool) → (b || true) ≡ true
-or-true true = refl
-or-true false = refl
 
 -- ---- an action
 

@@ -1,60 +1,46 @@
 -- Laws of what is listed, and of steps one after the other.
-use Prim.Native.Nat.{ℕ, zero, suc, _+_, _*_, _≤_, _<_}
+use Prim.Native.Nat.{ℕ, zero, suc, _+_, _≤_, _<_}
 use native.Mathlib.Omega.{arith}
-use mathlib.Core.Path.{_≡_, refl, sym, _∙_, ap, subst}
+use mathlib.Core.Path.{_≡_, refl, sym, _∙_, ap}
 use mathlib.Core.Bool.{Bool, true, false, true≢false, _||_}
 use mathlib.Core.List.{List, [], _∷_, _++_, map, append-assoc, append-nil}
 use lib.Dec.{eqb}
 use lib.ListN.{length, length-append}
-use Rattle.image.specs.declared.Header.{Header}
-use Rattle.image.specs.declared.Family.{Family}
 use Rattle.image.specs.declared.Lane.{Lane}
 use Rattle.evaluate.specs.declared.Segment.{Segment}
 use Rattle.evaluate.specs.Segments.{Route, flat}
 use Rattle.evaluate.specs.Words.{encode}
-use Rattle.search.specs.Rooms.{frameWidth}
 use Rattle.frames.specs.Inner.{Path, longer, pathAt, storedAt, pieces, pieceFrom}
 use Rattle.frames.proofs.Laws.{path-pieces, pieces-length, path-suc, path-zero}
 use Rattle.enumeration.proofs.Room.{encode-length}
 use Rattle.landings.specs.Inner.{Known}
-use Rattle.advance.specs.Inner.{On}
 use Rattle.walks.specs.Inner.{assigned}
-use Rattle.writer.specs.Inner.{Written}
 use Rattle.listing.specs.declared.Listing.{Listing}
 use Rattle.listing.specs.Inner.{Handed, Entered}
-use Rattle.listing.proofs.Rest.{entered-told}
 use Rattle.frames.specs.declared.Stored.{Stored}
+use Rattle.plain.proofs.Marks.{listed-join, deep-join}
 use Rattle.engine.specs.declared.Here.{Here}
 use Rattle.engine.specs.declared.Told.{Told}
-use Rattle.plain.specs.Steps.{Mark, Marks, gives, tooDeep, listed, goesTooDeep, depth}
+use Rattle.plain.specs.Steps.{Mark, Marks, gives, tooDeep, listed, goesTooDeep}
 use Rattle.engine.specs.Inner.{slotWords, assignmentOf, wordsOf, isOver, Gathered, Tells, Standing, Stepped, Given, InHand}
 
 -- ---- lists
 
-pub listed-join : {X : Type 0} (l m : List (Mark X)) → listed (l ++ m) ≡ listed l ++ listed m
-unfolding listed
-listed-join [] m = refl
-listed-join (gives x ∷ l) m = ap (λ r. x ∷ r) (listed-join l m)
-listed-join (tooDeep ∷ l) m = listed-join l m
-
 words-join : (n : ℕ) (l m : Marks) → wordsOf n (l ++ m) ≡ wordsOf n l ++ wordsOf n m
 unfolding wordsOf
-words-join n l m = ap (map (λ rs. encode (assignmentOf n rs))) (listed-join l m) ∙ go (listed l)
+words-join n l m = ap (map (λ rs. encode (assignmentOf n rs))) (listed-join m l) ∙ go (listed l)
   where
     go : (l : List (List Route)) → map (λ rs. encode (assignmentOf n rs)) (l ++ listed m) ≡ map (λ rs. encode (assignmentOf n rs)) l ++ map (λ rs. encode (assignmentOf n rs)) (listed m)
     go [] = refl
     go (x ∷ l) = ap (λ r. encode (assignmentOf n x) ∷ r) (go l)
 
-deep-join : {X : Type 0} (b : Bool) (l m : List (Mark X)) → (b || goesTooDeep l || goesTooDeep m) ≡ (b || goesTooDeep (l ++ m))
-unfolding goesTooDeep
-deep-join true l m = refl
-deep-join false [] m = refl
-deep-join false (gives x ∷ l) m = deep-join false l m
-deep-join false (tooDeep ∷ l) m = refl
-
 pub or-none : (b : Bool) → b ≡ (b || false)
 or-none true = refl
 or-none false = refl
+
+or-assoc : (a b c : Bool) → (a || b || c) ≡ (a || (b || c))
+or-assoc true b c = refl
+or-assoc false b c = refl
 
 or-left : (b c : Bool) → (b || c) ≡ false → b ≡ false
 or-left true c e = e
@@ -101,9 +87,10 @@ module _ {X : Type 0} (words : List (Mark X) → List (List ℕ)) (none : words 
       record {
         lists = λ e. rw (join m n) (gathered-then (a .lists (b .stays e)) (b .lists e));
         deep = λ f.
-            let g : l .looks ≡ false → (goesTooDeep m || goesTooDeep n) ≡ false = λ z. deep-join false m n ∙ f z in
+            let g : l .looks ≡ false → (goesTooDeep m || goesTooDeep n) ≡ false = λ z. sym (deep-join n m) ∙ f z in
             b .deep (λ z. or-right (goesTooDeep m) (goesTooDeep n) (g (sym (a .looks) ∙ z)))
-            ∙ ap (λ x. x || goesTooDeep n) (a .deep (λ z. or-left (goesTooDeep m) (goesTooDeep n) (g z))) ∙ deep-join (l .deep) m n;
+            ∙ ap (λ x. x || goesTooDeep n) (a .deep (λ z. or-left (goesTooDeep m) (goesTooDeep n) (g z)))
+            ∙ or-assoc (l .deep) (goesTooDeep m) (goesTooDeep n) ∙ ap (λ x. l .deep || x) (sym (deep-join n m));
         stays = λ e. a .stays (b .stays e);
         looks = b .looks ∙ a .looks;
       }

@@ -5,7 +5,7 @@ use native.Mathlib.Decide.{decLt}
 use mathlib.Core.Path.{_≡_, refl, sym, _∙_, ap}
 use mathlib.Core.Logic.{_⊎_, inl, inr}
 use mathlib.Core.Bool.{Bool, true, false}
-use mathlib.Core.List.{List, _++_}
+use mathlib.Core.List.{List}
 use lib.Dec.{eqb}
 use lib.ListN.{length}
 use borrow.Author.Tests.{eqb-true, eqb-false, ne-eqb}
@@ -15,7 +15,7 @@ use Rattle.graph.specs.Check.{panelRefusal}
 use Rattle.evaluate.specs.Segments.{flat}
 use Rattle.evaluate.specs.Check.{over}
 use Rattle.search.specs.Answers.{written}
-use Rattle.search.specs.Run.{Unbudgeted, nativesOf}
+use Rattle.search.specs.Run.{Unbudgeted}
 use Rattle.enumeration.proofs.Accepted.{accepted-unbudgeted}
 use Rattle.plain.specs.Steps.{depth, plainMarks, plainList, goesTooDeep, plainRefusal}
 use Rattle.plain.specs.Statement.{deepestOf}

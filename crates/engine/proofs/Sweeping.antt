@@ -1,14 +1,12 @@
 -- Laws of the sweep over the families, and of the call.
-use Prim.Native.Nat.{ℕ, zero, suc, _+_, _-_, _*_, _≤_, _<_}
+use Prim.Native.Nat.{ℕ, zero, suc, _+_, _-_, _≤_, _<_}
 use native.Mathlib.Omega.{arith}
 use native.Mathlib.Nat.{zero-add}
 use native.Mathlib.Numerals.{add-one}
 use mathlib.Core.Path.{_≡_, refl, sym, _∙_, ap, subst}
-use mathlib.Core.Bool.{Bool, true, false, true≢false, _||_}
-use mathlib.Core.List.{List, [], _∷_, _++_, map, append-assoc, append-nil}
-use lib.Dec.{eqb}
+use mathlib.Core.Bool.{Bool, true, false, true≢false}
+use mathlib.Core.List.{List, [], _∷_, _++_, map, append-nil}
 use lib.ListN.{length, take, drop, getD}
-use lib.Seq.{take-all}
 use Rattle.ground.specs.Lists.{pick, sum}
 use Rattle.image.specs.declared.Header.{Header}
 use Rattle.image.specs.declared.Family.{Family}
@@ -20,29 +18,27 @@ use Rattle.image.specs.Panel.{Panel, panelOf, pathsAt}
 use Rattle.image.proofs.Laws.{panel-families, families-length}
 use Rattle.panel.specs.Inner.{Accepted}
 use Rattle.graph.specs.Check.{checked, panelRefusal}
-use Rattle.evaluate.specs.Segments.{Route, Assignment, flat}
+use Rattle.evaluate.specs.Segments.{Assignment, flat}
 use Rattle.evaluate.specs.Words.{encode}
 use Rattle.evaluate.specs.Check.{over}
 use Rattle.search.specs.Walk.{Place, begins}
-use Rattle.search.specs.Rooms.{frameWidth}
 use Rattle.search.specs.Answers.{fitting, written}
 use Rattle.frames.specs.declared.Stored.{Stored}
-use Rattle.frames.specs.Inner.{noSegment, noPath, frameWith, put}
+use Rattle.frames.specs.Inner.{noPath, frameWith}
 use Rattle.frames.proofs.Laws.{frame-root}
 use Rattle.landings.specs.Inner.{Known}
-use Rattle.advance.specs.Inner.{Child, childOf}
 use Rattle.advance.proofs.Laws.{paths-are, path-named, path-some}
-use Rattle.listing.specs.declared.Listing.{Listing}
 use Rattle.listing.specs.Inner.{listsFrom, filledWith, toList, noneListed}
 use Rattle.engine.specs.declared.Here.{Here}
 use Rattle.engine.specs.declared.Told.{Told}
 use Rattle.engine.specs.declared.PlainReply.{PlainReply}
 use Rattle.plain.specs.Steps.{depth, Mark, Marks, gives, tooDeep, listed, goesTooDeep, placeMarks, ofFamily, familyMarks, marksFrom, plainMarks, plainList, plainRefusal}
-use Rattle.engine.specs.Inner.{slotWords, assignmentOf, wordsOf, looking, listingFrom, Gathered, Tells, Standing, Stepped, comeTo, placeTells, Rooted, Ample, Swept, Replied}
+use Rattle.engine.specs.Inner.{assignmentOf, wordsOf, looking, listingFrom, Gathered, Standing, Stepped, comeTo, placeTells, Rooted, Ample, Swept, Replied}
 use Rattle.engine.specs.Answer.{plainAnswer, plainOut}
 use borrow.Author.Tests.{ne-eqb}
 use Rattle.evaluate.proofs.Native.{checked-none}
-use Rattle.engine.proofs.Gathering.{listed-join, tells-none, tells-then}
+use Rattle.plain.proofs.Marks.{listed-join, family-deep}
+use Rattle.engine.proofs.Gathering.{tells-none, tells-then}
 
 -- ---- a family's root
 
@@ -62,12 +58,6 @@ family-words f [] = refl
 family-words f (gives x ∷ l) = ap (λ r. encode (assignmentOf f x) ∷ r) (family-words f l)
 family-words f (tooDeep ∷ l) = family-words f l
 
-family-deep : (f : ℕ) (l : Marks) → goesTooDeep l ≡ goesTooDeep (map (ofFamily f) l)
-unfolding goesTooDeep
-family-deep f [] = refl
-family-deep f (gives x ∷ l) = family-deep f l
-family-deep f (tooDeep ∷ l) = refl
-
 map-join : (l m : List Assignment) → map encode (l ++ m) ≡ map encode l ++ map encode m
 map-join [] m = refl
 map-join (x ∷ l) m = ap (λ r. encode x ∷ r) (map-join l m)
@@ -80,7 +70,7 @@ unfolding listed
 wordless = refl
 
 words-join : (m n : List (Mark Assignment)) → wordsIn (m ++ n) ≡ wordsIn m ++ wordsIn n
-words-join m n = ap (map encode) (listed-join m n) ∙ map-join (listed m) (listed n)
+words-join m n = ap (map encode) (listed-join n m) ∙ map-join (listed m) (listed n)
 
 module _ (s : List ℕ) (h : Header) where
   -- where a family's step stands

@@ -1,7 +1,7 @@
 // The plain engine (02, item 10): the search without a stored stack. The step at a place calls the step through a hub, which calls the step
 // at the next place, with the depth left going down. Only the path is kept; what is still to be tried at a place is in its step's locals.
 ghost use mathlib.Core.Path.{_≡_};
-ghost use mathlib.Core.Bool.{true, false};
+ghost use mathlib.Core.Bool.{true};
 ghost use Prim.Native.Nat.{_+_, _*_, _≤_, _<_};
 ghost use lib.ListN.{length};
 ghost use Rattle.image.specs.Panel.{panelOf};

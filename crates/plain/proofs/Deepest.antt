@@ -1,22 +1,21 @@
 -- How high a family's stack grows, and the deepest stack of a walk.
-use Prim.Native.Nat.{ℕ, zero, suc, _+_, _≤_, _<_, max}
+use Prim.Native.Nat.{ℕ, zero, suc, _+_, _<_, max}
 use native.Mathlib.Omega.{arith}
 use native.Mathlib.Nat.{zero-add, suc-add, add-comm}
-use mathlib.Core.Path.{_≡_, refl, sym, _∙_, ap, subst}
+use mathlib.Core.Path.{_≡_, refl, sym, _∙_, ap}
 use mathlib.Core.List.{List, [], _∷_, _++_, map, List·Memᴰ}
-use mathlib.Core.Bool.{Bool, true, false}
 use lib.ListN.{length, length-map}
 use Rattle.image.specs.Panel.{Panel, pathsAt}
 use Rattle.evaluate.specs.Segments.{Route, Assignment}
 use Rattle.search.specs.Walk.{down, Place, Frame, enter}
-use Rattle.search.specs.Run.{Walk, Ending, exhausted, Phase, going, ended, unlimited, unit, units, framesOf, deepest}
-use Rattle.enumeration.proofs.Tree.{State, one, iter, enum}
+use Rattle.search.specs.Run.{Walk, Ending, exhausted, Phase, going, ended, unlimited, unit, units, deepest}
+use Rattle.enumeration.proofs.Tree.{one, iter, enum}
 use Rattle.enumeration.proofs.Tree as tree
 use Rattle.enumeration.proofs.Sim.{tasksOf, remaining, enter-tasks}
 use Rattle.enumeration.proofs.Stack.{Stack, on, unitOn, steps, tasksIn, GoodStack, enter-good, unit-is, units-are, emptied}
-use Rattle.enumeration.proofs.Whole.{Counts, tag, phaseOf, unit-phase, units-add, ended-stays}
+use Rattle.enumeration.proofs.Whole.{Counts, tag, phaseOf, unit-phase, units-add}
 use Rattle.enumeration.proofs.Whole as whole
-use Rattle.plain.proofs.Height.{tall, peak, height, Climb, climb-node}
+use Rattle.plain.proofs.Height.{tall, peak, height, climb-node}
 
 -- ---- on a family's stack
 
@@ -83,16 +82,6 @@ module _ (p : Panel) where
   deepest-add (suc m) n (ended e w) = let h = deepest-ended (suc m + n) e w in let k = deepest-ended n e w in omega arith
   deepest-add (suc m) n (going w) = rw suc-add (let h = deepest-add m n (unit p unlimited w) in omega arith)
 
-  under-add : (m n : ℕ) (s : Phase) → under (m + n) s ≡ max (under m s) (under n (units p unlimited m s))
-  unfolding under units
-  under-add zero n s = rw zero-add (omega arith)
-  under-add (suc m) n (ended e w) = rw suc-add (let h = under-ended n e w in omega arith)
-    where
-      under-ended : (n : ℕ) (e : Ending) (w : Walk) → under n (ended e w) ≡ 0
-      under-ended zero e w = refl
-      under-ended (suc n) e w = refl
-  under-add (suc m) n (going w) = rw suc-add (let h = under-add m n (unit p unlimited w) in omega arith)
-
   -- a walk that has ended has one deepest stack
   pub one-depth : (m n : ℕ) (s : Phase) (v w : Walk) → units p unlimited m s ≡ ended exhausted v → units p unlimited n s ≡ ended exhausted w → deepest p m s ≡ deepest p n s
   one-depth m n s v w e f = past m n v e ∙ ap (λ (i : ℕ). deepest p i s) (add-comm m n) ∙ sym (past n m w f)
@@ -111,17 +100,6 @@ module _ (p : Panel) where
     pub count : ℕ
     pub ends : units p unlimited count s ≡ t
     pub top : under count s ≡ h
-
-  pub reaches-then : {s t u : Phase} {h k : ℕ} → Reaches s t h → Reaches t u k → Reaches s u (max h k)
-  reaches-then {s} {t} {u} {h} {k} r q =
-      let e = under-add (r .count) (q .count) s in
-      let x : under (q .count) (units p unlimited (r .count) s) ≡ k = ap (under (q .count)) (r .ends) ∙ q .top in
-      let y = r .top in
-      record {
-        count = r .count + q .count;
-        ends = units-add p unlimited (r .count) (q .count) s ∙ ap (units p unlimited (q .count)) (r .ends) ∙ q .ends;
-        top = omega arith;
-      }
 
   -- the walk of one family
   pub family-reaches : (f : ℕ) (base : List Assignment) (n : ℕ) (c : Counts) (st : List Frame) (o out : List (List Route)) → steps p (pathsAt p f) n (on st o) ≡ on [] out

@@ -4,26 +4,14 @@ use native.Mathlib.Omega.{arith}
 use native.Mathlib.Nat.{not-suc-le-zero, zero-add, suc-add}
 use native.Mathlib.Decide.{decLt}
 use mathlib.Core.Path.{_≡_, refl, sym, _∙_, ap}
-use mathlib.Core.Bool.{Bool, true, false}
+use mathlib.Core.Bool.{true}
 use mathlib.Core.List.{List, [], _∷_, _++_, map, append-assoc, append-nil, List·Memᴰ, List·Memᴰ·head, List·Memᴰ·tail}
 use lib.ListN.{length}
 use lib.Seq.{append-snoc}
 use Rattle.search.specs.Walk.{Task, pass, down, give}
 use Rattle.enumeration.proofs.Tree.{State, at, one, iter, iter-add, through, enum}
-use Rattle.plain.specs.Steps.{Mark, gives, tooDeep, listed, goesTooDeep}
-
--- a mark of what lies too deep stays
-pub deep-left : {X : Type 0} (l m : List (Mark X)) → goesTooDeep l ≡ true → goesTooDeep (l ++ m) ≡ true
-unfolding goesTooDeep
-deep-left [] m h = let z : _≡_ {A = ℕ} 0 1 = cc in let y : ⊥ = omega arith in absurd y
-deep-left (gives x ∷ l) m h = deep-left l m h
-deep-left (tooDeep ∷ l) m h = refl
-
-pub deep-right : {X : Type 0} (l m : List (Mark X)) → goesTooDeep m ≡ true → goesTooDeep (l ++ m) ≡ true
-unfolding goesTooDeep
-deep-right [] m h = h
-deep-right (gives x ∷ l) m h = deep-right l m h
-deep-right (tooDeep ∷ l) m h = refl
+use Rattle.plain.specs.Steps.{Mark, gives, tooDeep, goesTooDeep}
+use Rattle.plain.proofs.Marks.{deep-left, deep-right}
 
 module _ {N X : Type 0} (tasks : N → List (Task N X)) where
   abbrev pub tall : State N X → ℕ

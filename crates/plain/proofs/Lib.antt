@@ -1,3 +1,4 @@
+pub mod Marks
 pub mod Height
 pub mod Tasks
 pub mod Deepest

@@ -3,9 +3,9 @@ use Prim.Native.Nat.{ℕ, zero, suc, _≤_}
 use native.Mathlib.Omega.{arith}
 use mathlib.Core.Path.{_≡_, refl, sym, _∙_, ap}
 use mathlib.Core.Bool.{Bool, true, false}
-use mathlib.Core.List.{List, [], _∷_, _++_, map, append-assoc, append-nil}
+use mathlib.Core.List.{List, [], _∷_, _++_, map, append-assoc}
 use lib.Dec.{ltb}
-use lib.ListN.{take, drop}
+use lib.ListN.{drop}
 use lib.Seq.{slice}
 use borrow.Author.Tests.{ltb-false}
 use Rattle.ground.specs.Lists.{pick}
@@ -13,9 +13,9 @@ use Rattle.storage.specs.declared.Port.{Port}
 use Rattle.storage.specs.Records.{sameTurn}
 use Rattle.image.specs.Panel.{Panel}
 use Rattle.graph.specs.Lookups.{bucketLo, bucketHi}
-use Rattle.search.specs.Walk.{pass, down, give, Place, Doing, firstPort, portsHere, terminalTask, memberTask}
+use Rattle.search.specs.Walk.{pass, down, give, Place, Doing, firstPort, terminalTask, memberTask}
 use Rattle.enumeration.proofs.Sim.{hubTasks, portTasks, over, portsLeft, tasksOf}
-use Rattle.plain.specs.Steps.{Mark, Marks, gives, tooDeep, taskMarks, hubMarks, portMarks, portsAhead, placeMarks}
+use Rattle.plain.specs.Steps.{Marks, gives, taskMarks, hubMarks, portMarks, portsAhead, placeMarks}
 use Rattle.plain.proofs.Height.{marksThrough, marks}
 
 module _ (p : Panel) (paths : List ℕ) where

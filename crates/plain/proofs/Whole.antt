@@ -1,10 +1,8 @@
 -- The plain engine and the unbudgeted walk.
 use Prim.Native.Nat.{ℕ, zero, suc, _+_, _≤_, _<_, max}
 use native.Mathlib.Omega.{arith}
-use native.Mathlib.Nat.{zero-add}
 use native.Mathlib.Decide.{decLt}
 use mathlib.Core.Path.{_≡_, refl, sym, _∙_, ap, subst}
-use mathlib.Core.Logic.{_↔_}
 use mathlib.Core.List.{List, [], _∷_, _++_, map, append-assoc, append-nil, append-cancel-left}
 use mathlib.Core.Bool.{Bool, true, false}
 use lib.Dec.{ltb}
@@ -13,11 +11,8 @@ use borrow.Author.Tests.{lt-ltb, le-ltb}
 use Rattle.ground.specs.Lists.{pick}
 use Rattle.image.specs.Panel.{Panel, panelOf, pathsAt}
 use Rattle.evaluate.specs.Segments.{Route, Assignment}
-use Rattle.evaluate.specs.Refusals.{noRefusal}
-use Rattle.evaluate.specs.Refusals as refusals
-use Rattle.graph.specs.Check.{panelRefusal}
-use Rattle.search.specs.Walk.{Place, begins, enter}
-use Rattle.search.specs.Run.{Walk, exhausted, Phase, going, ended, unlimited, root, begin, units, seededWith, untouched, nativesOf, outset, Unbudgeted, deepest}
+use Rattle.search.specs.Walk.{Place, begins}
+use Rattle.search.specs.Run.{Walk, exhausted, Phase, ended, unlimited, root, begin, units, nativesOf, outset, Unbudgeted, deepest}
 use Rattle.enumeration.proofs.Tree.{enum}
 use Rattle.enumeration.proofs.Sim.{tasksOf}
 use Rattle.enumeration.proofs.Stack.{on}
@@ -28,9 +23,10 @@ use Rattle.enumeration.proofs.Suffice.{one-end}
 use Rattle.enumeration.proofs.Accepted.{accepted-sound, accepted-found, found-out, found-legal, found-once}
 use Rattle.plain.specs.Steps.{depth, Mark, gives, tooDeep, placeMarks, ofFamily, familyMarks, marksFrom, plainMarks, listed, plainList, goesTooDeep, plainRefusal}
 use Rattle.plain.specs.Statement.{deepestOf, EachLegalOnce, ListsTheWalk, RefusesTheDeep, ListsEachLegalOnce}
-use Rattle.plain.proofs.Height.{height, marks-are, marks-over, deep-left, deep-right}
+use Rattle.plain.proofs.Marks.{listed-join, deep-left, deep-right, family-deep}
+use Rattle.plain.proofs.Height.{height, marks-are, marks-over}
 use Rattle.plain.proofs.Tasks.{place-is}
-use Rattle.plain.proofs.Deepest.{Climbs, climbs, peakOn, under, deepest-add, one-depth, Reaches, family-reaches}
+use Rattle.plain.proofs.Deepest.{climbs, under, deepest-add, one-depth, family-reaches}
 
 module _ (p : Panel) (sound : Sound p) where
   abbrev first : ℕ → Place
@@ -101,12 +97,6 @@ module _ (p : Panel) (sound : Sound p) where
 
   -- ---- the engine
 
-  listed-append : (l m : List (Mark Assignment)) → listed (l ++ m) ≡ listed l ++ listed m
-  unfolding listed
-  listed-append [] m = refl
-  listed-append (gives x ∷ l) m = ap (λ r. x ∷ r) (listed-append l m)
-  listed-append (tooDeep ∷ l) m = listed-append l m
-
   family-listed : (f : ℕ) (l : List (List Route)) → listed (map (ofFamily f) (map gives l)) ≡ map (tag p f) l
   unfolding listed
   family-listed f [] = refl
@@ -121,7 +111,7 @@ module _ (p : Panel) (sound : Sound p) where
   unfolding marksFrom listed
   lists zero f h = refl
   lists (suc n) f h =
-      listed-append (familyMarks p f) (marksFrom p n (suc f))
+      listed-join (marksFrom p n (suc f)) (familyMarks p f)
       ∙ rw (family-marks f (omega arith), family-listed f (routesOf f), lists n (suc f) (omega arith)) refl
 
   none-deep : (f : ℕ) (l : List (List Route)) (m : List (Mark Assignment)) → goesTooDeep m ≡ false → goesTooDeep (map (ofFamily f) (map gives l) ++ m) ≡ false
@@ -134,12 +124,6 @@ module _ (p : Panel) (sound : Sound p) where
   not-deep zero f h = refl
   not-deep (suc n) f h = rw (family-marks f (omega arith)) (none-deep f (routesOf f) (marksFrom p n (suc f)) (not-deep n (suc f) (omega arith)))
 
-  family-deep : (f : ℕ) (l : List (Mark (List Route))) → goesTooDeep l ≡ true → goesTooDeep (map (ofFamily f) l) ≡ true
-  unfolding goesTooDeep
-  family-deep f [] h = h
-  family-deep f (gives x ∷ l) h = family-deep f l h
-  family-deep f (tooDeep ∷ l) h = refl
-
   deep : (n f : ℕ) → depth < heightFrom n f → goesTooDeep (marksFrom p n f) ≡ true
   unfolding marksFrom familyMarks
   deep zero f h = let z : ⊥ = omega arith in absurd z
@@ -148,7 +132,7 @@ module _ (p : Panel) (sound : Sound p) where
       go : Dec (depth < heightOf f) → (depth < heightFrom n (suc f) → goesTooDeep (marksFrom p n (suc f)) ≡ true) → goesTooDeep (familyMarks p f ++ marksFrom p n (suc f)) ≡ true
       go (yes l) r =
           deep-left (familyMarks p f) (marksFrom p n (suc f))
-          (family-deep f (placeMarks p (pathsAt p f) depth (first f)) (rw (place-is p (pathsAt p f) depth (first f)) (marks-over (tasksOf p (pathsAt p f)) depth (fuel f) (first f) l)))
+          (sym (family-deep f (placeMarks p (pathsAt p f) depth (first f))) ∙ rw (place-is p (pathsAt p f) depth (first f)) (marks-over (tasksOf p (pathsAt p f)) depth (fuel f) (first f) l))
       go (no l) r = deep-right (familyMarks p f) (marksFrom p n (suc f)) (r (omega arith))
 
   -- ---- the two

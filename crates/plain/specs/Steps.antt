@@ -5,7 +5,7 @@ use mathlib.Core.Bool.{Bool, true, false}
 use mathlib.Core.List.{List, [], _∷_, _++_, map, reverse}
 use lib.ListN.{length, take, drop, getD}
 use lib.Seq.{slice}
-use Rattle.ground.specs.Lists.{pick, any}
+use Rattle.ground.specs.Lists.{pick}
 use Rattle.storage.specs.declared.Port.{Port}
 use Rattle.storage.specs.Records.{sameTurn}
 use Rattle.image.specs.Panel.{Panel, panelOf, pathsAt}

@@ -12,7 +12,7 @@ use Rattle.image.specs.Panel.{Panel, PanelLane}
 use Rattle.evaluate.specs.Segments.{Route}
 use Rattle.evaluate.specs.Words.{encode}
 use Rattle.search.specs.Walk.{begins, terminalTask, memberTask}
-use Rattle.plain.specs.Steps.{Mark, gives, tooDeep, Marks, hubMarks, portMarks, placeMarks, familyMarks, marksFrom, plainMarks, listed, plainList, goesTooDeep}
+use Rattle.plain.specs.Steps.{Mark, gives, tooDeep, hubMarks, portMarks, placeMarks, familyMarks, marksFrom, plainMarks, listed, plainList, goesTooDeep}
 
 -- a port of k letters, all of them this one: its lane, its anchor, whether it is reverse
 abbrev port : ℕ → ℕ → ℕ → ℕ → Bool → Port

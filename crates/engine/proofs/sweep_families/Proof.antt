@@ -1,5 +1,4 @@
 use borrow.Author.Needs.{needs}
-use native.Mathlib.Omega.{arith}
 use Prim.Native.Nat.{_-_}
 use Rattle.engine.proofs.Sweeping.{Sweeping, sweeping-start, sweeping-standing, sweeping-next, sweeping-done}
 use Rattle.engine.proofs.sweep_families.Statement.{statement}
