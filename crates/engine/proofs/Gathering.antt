@@ -21,7 +21,7 @@ use Rattle.frames.specs.declared.Stored.{Stored}
 use Rattle.plain.proofs.Marks.{listed-join, deep-join}
 use Rattle.engine.specs.declared.Here.{Here}
 use Rattle.engine.specs.declared.Told.{Told}
-use Rattle.plain.specs.Steps.{Mark, Marks, gives, tooDeep, listed, goesTooDeep}
+use Rattle.plain.specs.Steps.{Mark, Marks, listed, goesTooDeep}
 use Rattle.engine.specs.Inner.{slotWords, assignmentOf, wordsOf, isOver, Gathered, Tells, Standing, Stepped, Given, InHand}
 
 -- ---- lists

@@ -13,7 +13,7 @@ use Rattle.enumeration.proofs.Tree.{one, iter, enum}
 use Rattle.enumeration.proofs.Tree as tree
 use Rattle.enumeration.proofs.Sim.{tasksOf, remaining, enter-tasks}
 use Rattle.enumeration.proofs.Stack.{Stack, on, unitOn, steps, tasksIn, GoodStack, enter-good, unit-is, units-are, emptied}
-use Rattle.enumeration.proofs.Whole.{Counts, tag, phaseOf, unit-phase, units-add}
+use Rattle.enumeration.proofs.Whole.{Counts, tag, phaseOf, unit-phase}
 use Rattle.enumeration.proofs.Whole as whole
 use Rattle.plain.proofs.Height.{tall, peak, height, climb-node}
 

@@ -21,7 +21,7 @@ use Rattle.enumeration.proofs.Whole.{Counts, tag, phaseOf, units-add}
 use Rattle.enumeration.proofs.Whole as whole
 use Rattle.enumeration.proofs.Suffice.{one-end}
 use Rattle.enumeration.proofs.Accepted.{accepted-sound, accepted-found, found-out, found-legal, found-once}
-use Rattle.plain.specs.Steps.{depth, Mark, gives, tooDeep, placeMarks, ofFamily, familyMarks, marksFrom, plainMarks, listed, plainList, goesTooDeep, plainRefusal}
+use Rattle.plain.specs.Steps.{depth, Mark, gives, placeMarks, ofFamily, familyMarks, marksFrom, plainMarks, listed, plainList, goesTooDeep, plainRefusal}
 use Rattle.plain.specs.Statement.{deepestOf, EachLegalOnce, ListsTheWalk, RefusesTheDeep, ListsEachLegalOnce}
 use Rattle.plain.proofs.Marks.{listed-join, deep-left, deep-right, family-deep}
 use Rattle.plain.proofs.Height.{height, marks-are, marks-over}
