@@ -66,6 +66,14 @@ pub struct SearchReply {
 }
 
 #[repr(C)]
+pub struct PlainReply {
+    refusal: u64,
+    place: u64,
+    pub written: u64,
+    pub words: u64,
+}
+
+#[repr(C)]
 struct BoundReply {
     refusal: u64,
     place: u64,
@@ -121,6 +129,13 @@ extern "C" {
         kept_scores: *mut f64,
         kept_scores_len: usize,
     ) -> SearchReply;
+    fn panel_routes_plain_list(
+        image: *const u8,
+        image_len: usize,
+        from: u64,
+        out: *mut u64,
+        out_len: usize,
+    ) -> PlainReply;
     fn panel_routes_lower_bound(counts: *const u64, counts_len: usize, background: f64) -> BoundReply;
 }
 
@@ -218,6 +233,12 @@ pub fn search(
     given(r.refusal, r.place, r)
 }
 
+pub fn plain_list(image: &[u8], from: u64, out: &mut [u64]) -> Result<PlainReply, Refusal> {
+    let r =
+        unsafe { panel_routes_plain_list(image.as_ptr(), image.len(), from, out.as_mut_ptr(), out.len()) };
+    given(r.refusal, r.place, r)
+}
+
 pub fn lower_bound(counts: &[u64], background: f64) -> Result<Option<f64>, Refusal> {
     let r = unsafe { panel_routes_lower_bound(counts.as_ptr(), counts.len(), background) };
     given(r.refusal, r.place, (r.given == 1).then_some(r.bound))
@@ -225,9 +246,11 @@ pub fn lower_bound(counts: &[u64], background: f64) -> Result<Option<f64>, Refus
 
 #[cfg(test)]
 mod tests {
-    //! 13 and 21, which the crate's own rooms never call forth.
+    //! 13 and 21, which the crate's own rooms never call forth; the plain listing's refusals, with
+    //! what they leave in the room.
     use super::*;
     use crate::{search::Rooms, PanelBuilder};
+    use std::collections::BTreeSet;
 
     #[test]
     fn a_room_that_is_too_short() {
@@ -263,5 +286,44 @@ mod tests {
         let answer = |out: usize| check_assignment(panel.image(), &words, &mut vec![0; out]);
         assert_eq!(answer(words.len()), Ok(words.len()));
         assert_eq!(answer(words.len() - 1), Err(Refusal::new(21, 0)));
+    }
+
+    /// The refusal's number, 0 for none; a refusal has no place and leaves the room as it was.
+    fn plain_refusal(image: &[u8]) -> u64 {
+        let mut out = [u64::MAX; 400];
+        let Err(refusal) = plain_list(image, 0, &mut out) else { return 0 };
+        assert_eq!((refusal.place(), out), (0, [u64::MAX; 400]));
+        refusal.number()
+    }
+
+    #[test]
+    fn the_plain_listing_refuses_a_panel_as_its_check_does() {
+        let mut builder = PanelBuilder::new(2);
+        builder.lane(10, 0).lane(10, 1).family([0]).port("AC", 0, 3, false).port("AC", 1, 5, false);
+        let image = builder.build().unwrap().image().to_vec();
+        let mut seen = BTreeSet::new();
+        let mut hold = |image: &[u8]| {
+            let number = check_panel(image).err().map_or(0, |r| r.number());
+            assert_eq!(plain_refusal(image), number);
+            seen.insert(number);
+        };
+        (0..image.len()).for_each(|end| hold(&image[..end]));
+        for at in 0..image.len() {
+            for value in [0, 1, 2, 4, 33, b'C', b'N', 255] {
+                let mut damaged = image.clone();
+                damaged[at] = value;
+                hold(&damaged);
+            }
+        }
+        assert!(seen.into_iter().eq(0..=8));
+    }
+
+    #[test]
+    fn a_search_that_goes_too_deep() {
+        let mut builder = PanelBuilder::new(1);
+        (0..65).fold(&mut builder, |b, lane| b.lane(3, lane)).family(0..64).port("A", 63, 1, false);
+        assert_eq!(plain_refusal(builder.build().unwrap().image()), 0);
+        builder.port("A", 64, 1, false);
+        assert_eq!(plain_refusal(builder.build().unwrap().image()), 42);
     }
 }

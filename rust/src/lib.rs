@@ -59,6 +59,11 @@
 //! # Ok::<(), Box<dyn std::error::Error>>(())
 //! ```
 //!
+//! # All of them, without a budget
+//!
+//! [`Panel::plain_assignments`] lists every legal assignment by a second, plain engine, made for
+//! teaching. It has no budget and may take very long; [`Panel::assignments`] has budgets.
+//!
 //! # A lower bound
 //!
 //! [`lower_bound`] takes counts and a background, and no panel: what the original reports beside
@@ -66,7 +71,8 @@
 //!
 //! # Stack
 //!
-//! The calls keep their tables on the stack, up to half a MiB. On a thread with a smaller stack
+//! The calls keep their tables on the stack, up to half a MiB; the plain listing, whose search is
+//! a recursion of bounded depth, needs at most 2 MiB (TODO-STACK). On a thread with a smaller stack
 //! than that they end at its guard page, as too deep a recursion in Rust does.
 
 mod bound;
@@ -76,6 +82,8 @@ mod exports;
 mod graph;
 mod job;
 mod listing;
+mod page;
+mod plain;
 mod refusal;
 mod search;
 mod sheet;
@@ -87,6 +95,7 @@ pub use evaluate::{Assignment, Segment};
 pub use graph::{Lane, Panel};
 pub use job::Job;
 pub use listing::Assignments;
+pub use plain::PlainAssignments;
 pub use refusal::Refusal;
 pub use search::{Progress, SearchBudget};
 pub use sheet::{Counters, Frame, Scored, Sheet, Status};

@@ -1,9 +1,10 @@
 //! The listing, page by page.
-use crate::{exports, search::Rooms, Assignment, Panel, Refusal, SearchBudget, Status};
-
-/// The words of a listing's first page, and how far pages grow. Every page costs a whole walk.
-const PAGE: usize = 1 << 16;
-const MOST_PAGE: usize = 1 << 22;
+use crate::{
+    exports,
+    page::{Page, FIRST_PAGE},
+    search::Rooms,
+    Assignment, Panel, Refusal, SearchBudget, Status,
+};
 
 /// An iterator over the assignments of a walk; see [`Panel::assignments`].
 #[derive(Clone, Debug)]
@@ -16,15 +17,12 @@ pub struct Assignments<'a> {
     given: u64,
     frames: Vec<u64>,
     slot: Vec<u64>,
-    /// Room for a page, of which the words from `at` to `end` are still to be given.
-    page: Vec<u64>,
-    at: usize,
-    end: usize,
+    page: Page,
 }
 
 impl<'a> Assignments<'a> {
     pub(crate) fn new(panel: &'a Panel<'a>, budget: SearchBudget) -> Result<Self, Refusal> {
-        Self::paged(panel, budget, PAGE)
+        Self::paged(panel, budget, FIRST_PAGE)
     }
 
     fn paged(panel: &'a Panel<'a>, budget: SearchBudget, page: usize) -> Result<Self, Refusal> {
@@ -36,11 +34,8 @@ impl<'a> Assignments<'a> {
             evaluations: 0,
             given: 0,
             frames: vec![0; rooms.frames],
-            // A page has room for at least one assignment.
-            page: vec![0; page.max(rooms.slot)],
             slot: vec![0; rooms.slot],
-            at: 0,
-            end: 0,
+            page: Page::new(page, rooms.slot),
         };
         listing.turn()?;
         Ok(listing)
@@ -49,10 +44,10 @@ impl<'a> Assignments<'a> {
     /// Fills the page with the assignments that follow.
     fn turn(&mut self) -> Result<(), Refusal> {
         let (image, from) = (self.panel.image(), self.given);
-        let r = exports::list(image, self.budget, from, &mut self.frames, &mut self.slot, &mut self.page)?;
+        let r = exports::list(image, self.budget, from, &mut self.frames, &mut self.slot, self.page.room())?;
         self.status = Status::numbered(r.status);
         self.evaluations = r.evaluations;
-        (self.at, self.end) = (0, r.words as usize);
+        self.page.begin(r.words);
         Ok(())
     }
 
@@ -74,14 +69,12 @@ impl Iterator for Assignments<'_> {
         if self.given == self.evaluations {
             return None;
         }
-        if self.at == self.end {
-            let grown = (2 * self.page.len()).min(MOST_PAGE).max(self.page.len());
-            self.page.resize(grown, 0);
+        if self.page.is_used_up() {
+            self.page.grow();
             // What passed on the first page passes on every page.
             self.turn().ok()?;
         }
-        let assignment = Assignment::front(&self.page[self.at..self.end])?;
-        self.at += assignment.words().len();
+        let assignment = self.page.give()?;
         self.given += 1;
         Some(assignment)
     }

@@ -12,7 +12,7 @@ impl Refusal {
         Self { number, place }
     }
 
-    /// 1 to 31, by the table of refusals, and 43 of the lower bound.
+    /// 1 to 31, by the table of refusals, 42 of the plain listing and 43 of the lower bound.
     pub fn number(&self) -> u64 {
         self.number
     }
@@ -61,6 +61,7 @@ impl Refusal {
             29 => "no incoming port",
             30 => "words differ",
             31 => "spans overlap",
+            42 => "plain listing: the unbudgeted walk's deepest stack is over 64",
             43 => "lower bound: a count of 2^53 or more, or a background not finite or not above 0",
             _ => "a number that the table does not have",
         }
