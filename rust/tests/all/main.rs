@@ -4,5 +4,6 @@ mod builder;
 mod examples;
 mod larger;
 mod panel_e;
+mod plain;
 mod recorded;
 mod refusals;
