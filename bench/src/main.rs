@@ -4,7 +4,11 @@ mod agree;
 mod table;
 mod tuned;
 
-use oracle::{gen::Rng, large, plain, spec::Spec};
+use oracle::{
+    gen::Rng,
+    large, plain,
+    spec::{PortSpec, Spec},
+};
 use original::{door, genome_inference::panel_routes::Scores};
 use panel_routes::{Assignment, Panel, SearchBudget, Segment};
 use std::{env, fs, path::Path, process::ExitCode, time::Instant};
@@ -124,7 +128,51 @@ fn listing(name: &str, spec: &Spec, work: u64) -> Row {
         },
     );
     assert_eq!(made, found.evaluations);
-    Row::new(format!("listing, {name}, {work} units, {made} assignments"), ours).tuned(tuned)
+    Row::new(format!("listing, {name}, {} units, {made} assignments", found.work), ours).tuned(tuned)
+}
+
+/// One page of the plain listing, whole calls; the tuned listing leaves the natives out.
+fn plain_listing(name: &str, spec: &Spec) -> Row {
+    let image = spec.image();
+    let panel = Panel::new(&image[..]).unwrap();
+    let mut rooms = Rooms::new();
+    let natives = panel.family_count() as u64;
+    let (ours, page, tuned, found) = side_by_side(
+        || panel.plain_assignments().unwrap(),
+        || {
+            let panel = tuned::Panel::new(&image).unwrap();
+            let Rooms { frames, slot, out, .. } = &mut rooms;
+            panel.list(agree::sufficient(u64::MAX), natives, frames, slot, out).unwrap()
+        },
+    );
+    assert_eq!(found.status, tuned::EXHAUSTED);
+    let words = page.take(found.written as usize).flat_map(Assignment::into_words);
+    assert!(words.eq(rooms.out[..found.words as usize].iter().copied()));
+    let (units, written, all) = (found.work - natives, found.written, found.evaluations - natives);
+    Row::new(format!("plain listing, {name}, {units} units, {written} of {all} assignments"), ours)
+        .tuned(tuned)
+}
+
+/// 6 lanes of 10,000 bases with so many words in their order, k 16: each word is on two or three lanes,
+/// one port in eight is in reverse. So few ports that the unbudgeted walk comes to its end.
+fn braided(words: u64) -> Spec {
+    const K: u64 = 16;
+    const LANES: u64 = 6;
+    const LENGTH: u64 = 10_000;
+    let mut rng = Rng::new(SEED, 10, words);
+    let step = LENGTH / words;
+    let mut ports = Vec::new();
+    for i in 0..words {
+        let word: Vec<u8> = (0..K).map(|_| rng.pick(b"ACGT")).collect();
+        let mut sources: Vec<u64> = (0..LANES).collect();
+        for _ in 0..rng.range(2, 3) {
+            let source = sources.swap_remove(rng.below(sources.len() as u64) as usize);
+            let anchor = i * step + rng.below(step - K + 1);
+            ports.push(PortSpec { word: word.clone(), source, anchor, reverse: rng.one_in(8) });
+        }
+    }
+    let families = (0..LANES).map(|l| vec![l]).collect();
+    Spec { k: K, lanes: (0..LANES).map(|l| (LENGTH, l)).collect(), families, ports }
 }
 
 fn panel_check(name: &str, spec: &Spec) -> Row {
@@ -179,6 +227,12 @@ fn run(folder: &Path) {
     for (name, spec) in &pools {
         table.put(listing(name, spec, 1_000_000));
     }
+    // All assignments of the first fit into a page, and a part of the second's.
+    for words in [22, 23] {
+        let (name, spec) = (format!("braid of {words} words"), braided(words));
+        table.put(plain_listing(&name, &spec));
+        table.put(listing(&name, &spec, u64::MAX));
+    }
     let (name, spec) = &pools[1];
     table.put(panel_check("3,200 ports", spec));
     table.put(assignment_check(name, spec, 1));
@@ -194,7 +248,11 @@ fn run(folder: &Path) {
 fn main() -> ExitCode {
     let words: Vec<String> = env::args().skip(1).collect();
     match words.iter().map(String::as_str).collect::<Vec<_>>()[..] {
-        ["agree", count] => agree::with_judge(count.parse().expect("a count")),
+        ["agree", count] => {
+            let count = count.parse().expect("a count");
+            let agree = agree::with_judge(count) && agree::plain(count);
+            ExitCode::from(u8::from(!agree))
+        }
         [] => {
             let folder = env::temp_dir().join(format!("panel-routes-bench-{}", std::process::id()));
             fs::create_dir_all(&folder).unwrap();

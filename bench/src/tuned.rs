@@ -275,11 +275,11 @@ trait Evaluations {
 }
 
 /// Numbers of the statuses.
-const EXHAUSTED: u64 = 1;
+pub const EXHAUSTED: u64 = 1;
 const DISCARDED: u64 = 2;
 const WORK: u64 = 3;
 const EVALUATION: u64 = 4;
-const FRONTIER: u64 = 5;
+pub const FRONTIER: u64 = 5;
 
 struct Walk<'a, E> {
     panel: &'a Panel,
@@ -648,6 +648,7 @@ pub struct Listing {
     pub written: u64,
     pub words: u64,
     pub evaluations: u64,
+    pub work: u64,
 }
 
 impl Panel {
@@ -720,8 +721,8 @@ impl Panel {
         let status = walk.run()?;
         walk.leave_frames(&mut frames[..frame_words]);
         slot[..v].fill(0);
-        let Listed { written, words, .. } = walk.sink;
-        Ok(Listing { status, written, words: words as u64, evaluations: walk.tally.evaluations })
+        let (Listed { written, words, .. }, Tally { work, evaluations, .. }) = (walk.sink, walk.tally);
+        Ok(Listing { status, written, words: words as u64, evaluations, work })
     }
 }
 
