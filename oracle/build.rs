@@ -1,7 +1,7 @@
 //! Links the archive, where one of its calls is asked for.
 use std::{env, path::PathBuf};
 
-const CALLS: [&str; 7] = ["PANEL", "PORT", "BUCKET", "CHECK", "LIST", "SEARCH", "BOUND"];
+const CALLS: [&str; 8] = ["PANEL", "PORT", "BUCKET", "CHECK", "LIST", "SEARCH", "BOUND", "PLAIN"];
 
 fn main() {
     println!("cargo:rerun-if-env-changed=PANEL_ROUTES_LIB");

@@ -12,10 +12,11 @@ pub enum Kind {
     Search = 6,
     /// 7 is a job of the walk program.
     Bound = 8,
+    Plain = 9,
 }
 
-pub const KINDS: [Kind; 7] =
-    [Kind::Panel, Kind::Port, Kind::Bucket, Kind::Check, Kind::List, Kind::Search, Kind::Bound];
+pub const KINDS: [Kind; 8] =
+    [Kind::Panel, Kind::Port, Kind::Bucket, Kind::Check, Kind::List, Kind::Search, Kind::Bound, Kind::Plain];
 
 impl Kind {
     pub fn name(self) -> &'static str {
@@ -27,6 +28,7 @@ impl Kind {
             Kind::List => "list",
             Kind::Search => "search",
             Kind::Bound => "bound",
+            Kind::Plain => "plain",
         }
     }
     pub fn named(name: &str) -> Option<Self> {
@@ -69,6 +71,11 @@ pub enum Call {
         counts: Vec<u64>,
         background: u64,
     },
+    /// The plain engine's list.
+    Plain {
+        from: u64,
+        out: usize,
+    },
 }
 
 impl Call {
@@ -81,6 +88,7 @@ impl Call {
             Call::List { .. } => Kind::List,
             Call::Search { .. } => Kind::Search,
             Call::Bound { .. } => Kind::Bound,
+            Call::Plain { .. } => Kind::Plain,
         }
     }
 
@@ -88,7 +96,7 @@ impl Call {
     pub fn rooms(&self) -> Vec<usize> {
         match *self {
             Call::Panel | Call::Port { .. } | Call::Bucket { .. } | Call::Bound { .. } => vec![],
-            Call::Check { out, .. } => vec![out],
+            Call::Check { out, .. } | Call::Plain { out, .. } => vec![out],
             Call::List { frames, slot, out, .. } => vec![frames, slot, out],
             Call::Search { frames, kept, kept_scores, .. } => vec![frames, kept, kept_scores],
         }
@@ -116,7 +124,7 @@ pub fn reply_words(kind: Kind) -> usize {
     match kind {
         Kind::Panel => 2,
         Kind::Port => 8,
-        Kind::Bucket | Kind::Bound => 4,
+        Kind::Bucket | Kind::Bound | Kind::Plain => 4,
         Kind::Check => 3,
         Kind::List => 6,
         Kind::Search => 16,

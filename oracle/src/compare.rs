@@ -42,6 +42,7 @@ impl Run {
 struct Met {
     inputs: u64,
     waived: u64,
+    too_long: u64,
     refusals: BTreeMap<u64, u64>,
     features: BTreeMap<&'static str, u64>,
 }
@@ -66,20 +67,24 @@ impl Met {
         if self.waived > 0 {
             text += &format!("; DNA test waived in {}", self.waived);
         }
+        if self.too_long > 0 {
+            text += &format!("; {} more left out, their walk too long", self.too_long);
+        }
         text
     }
 }
 
-fn judged(image: &[u8], call: &Call) -> (Outcome, bool) {
+/// The judge's outcome, and whether the DNA test was waived for it; none where a walk is too long.
+fn judged(image: &[u8], call: &Call) -> Option<(Outcome, bool)> {
     let before = original::sequence_index::waived();
-    let o = judge::outcome(image, call);
-    (o, original::sequence_index::waived() > before)
+    let o = judge::within_reach(image, call)?;
+    Some((o, original::sequence_index::waived() > before))
 }
 
 /// Whether the two differ on an input that the original answers with this refusal, or none.
 fn differs(subject: &Calls, input: &Input, refusal: u64) -> bool {
     let image = input.image();
-    let wanted = judge::outcome(&image, &input.call);
+    let Some(wanted) = judge::within_reach(&image, &input.call) else { return false };
     wanted.reply[0] == refusal && subject.make(&image, &input.call) != wanted
 }
 
@@ -132,7 +137,10 @@ pub fn work(run: &Run, kind: Kind, progress: Option<&fs::File>) -> Result<(), ()
         }
         let input = gen::input(run.seed, kind, index, Size::Wide);
         let image = input.image();
-        let (wanted, waived) = judged(&image, &input.call);
+        let Some((wanted, waived)) = judged(&image, &input.call) else {
+            met.too_long += 1;
+            continue;
+        };
         if subject.make(&image, &input.call) != wanted {
             let found = start.elapsed().as_secs_f64();
             let least = smallest(&subject, &input, wanted.reply[0]);
@@ -160,7 +168,10 @@ pub fn exhaustive(run: &Run, stride: u64) -> Result<(), ()> {
             for call in gen::tiny_calls(&spec, kind) {
                 let input = Input { spec: spec.clone(), edits: vec![], call };
                 let image = input.image();
-                let (wanted, waived) = judged(&image, &input.call);
+                let Some((wanted, waived)) = judged(&image, &input.call) else {
+                    met.too_long += 1;
+                    continue;
+                };
                 if subject.make(&image, &input.call) != wanted {
                     let least = smallest(&subject, &input, wanted.reply[0]);
                     print!("{}", report(Some(&subject), &least, index, run));
@@ -322,7 +333,10 @@ pub fn one(run: &Run) -> io::Result<bool> {
     let mut same = true;
     while let Some((request, _)) = record::read(&mut io::stdin().lock())? {
         let record::Request::Call(image, call) = request else { continue };
-        let wanted = judge::outcome(&image, &call);
+        let Some(wanted) = judge::within_reach(&image, &call) else {
+            println!("too long");
+            continue;
+        };
         let found = run.subject().make(&image, &call);
         println!("original {}", judge::spaced(&wanted.reply));
         println!("subject  {}", judge::spaced(&found.reply));

@@ -1,7 +1,7 @@
 //! What an outcome shows, by name: for counting what a run met and for choosing records.
 use crate::{
     calls::{Call, Outcome},
-    judge, rules,
+    deep, judge, rules,
 };
 
 /// The segments of an assignment, each with its slot.
@@ -30,6 +30,7 @@ pub fn of(image: &[u8], call: &Call, o: &Outcome) -> Vec<&'static str> {
         return match (r[0], r[1]) {
             (25..=30, 1..) => vec!["in a later route"],
             (14 | 15, 2..) => vec!["in a later evaluation"],
+            (42, _) if deep::is_depth(image, 65) => vec!["depth 65"],
             _ => vec![],
         };
     }
@@ -94,6 +95,21 @@ pub fn of(image: &[u8], call: &Call, o: &Outcome) -> Vec<&'static str> {
             );
             note(o.rooms[2][..=r[12] as usize].contains(&(1 << 63)), "-0.0 kept");
             note(judge::used_words(incumbent) == needs.slot, "a full slot");
+        }
+        Call::Plain { from, .. } => {
+            let count = deep::count(image);
+            let written = judge::assignments(&o.rooms[0][..r[3] as usize]);
+            let pieces: Vec<_> = written.iter().map(|a| (a[1], segments(a))).collect();
+            note(count > 1, "a list of several");
+            note(deep::is_depth(image, 64), "depth 64");
+            note(r[2] > 1, "several written");
+            note(r[2] < count.saturating_sub(*from), "out was full");
+            note(*from > 0 && r[2] > 0, "from a later one");
+            note(*from >= count, "from past the last");
+            note(pieces.iter().any(|(routes, all)| all.len() as u64 > *routes), "a switch");
+            note(pieces.iter().any(|(_, all)| all.iter().any(|(_, s)| s[3] == 1)), "a reverse piece");
+            note(written.iter().any(|a| a[1] > 1), "several routes");
+            note(written.iter().any(|a| a[0] > 0), "a later family");
         }
         Call::Bound { counts, background } => {
             let background = f64::from_bits(*background);

@@ -1,7 +1,7 @@
 //! Inputs for the calls, each determined by a seed, a kind and a number.
 use crate::{
     calls::{Call, Kind},
-    counts, plain,
+    counts, deep, plain,
     rules::{needs_of, BudgetWords},
     spec::{PortSpec, Spec},
 };
@@ -485,14 +485,7 @@ fn walked(spec: &Spec) -> Vec<Vec<u64>> {
         plain::Budget { max_work: 200, max_evaluations: 20, max_frontier: 12, max_optima: 1, tie_width: 0.0 };
     let (mut frames, mut slot, mut out) = (vec![0; 130], vec![0; 2 + 5 * 80], vec![0; 3000]);
     let Ok(listing) = panel.list(budget, 0, &mut frames, &mut slot, &mut out) else { return Vec::new() };
-    let mut found = Vec::new();
-    let mut rest = &out[..listing.words as usize];
-    while !rest.is_empty() {
-        let (one, later) = rest.split_at(crate::judge::used_words(rest));
-        found.push(one.to_vec());
-        rest = later;
-    }
-    found
+    crate::judge::assignments(&out[..listing.words as usize]).into_iter().map(Vec::from).collect()
 }
 
 fn routes_of(words: &[u64]) -> Vec<Vec<[u64; 4]>> {
@@ -780,7 +773,7 @@ pub fn input(seed: u64, kind: Kind, index: u64, size: Size) -> Input {
         let none = Spec { k: 0, lanes: vec![], families: vec![], ports: vec![] };
         return Input { spec: none, edits: vec![Edit::Truncate(0)], call: counts::call(rng, size) };
     }
-    let mut spec = sound(rng, size);
+    let mut spec = if kind == Kind::Plain { deep::panel(rng, size) } else { sound(rng, size) };
     let mut edits = Vec::new();
     let harm = if kind == Kind::Panel { 12 } else { 1 };
     match rng.below(16) {
@@ -805,6 +798,7 @@ pub fn input(seed: u64, kind: Kind, index: u64, size: Size) -> Input {
             }
         }
         Kind::List | Kind::Search => walk_call(rng, &input.spec, &input.image(), kind, size),
+        Kind::Plain => deep::call(rng, &input.image()),
         Kind::Bound => unreachable!("it takes no panel"),
     };
     input
@@ -911,6 +905,7 @@ pub fn tiny_calls(spec: &Spec, kind: Kind) -> Vec<Call> {
             let budgets = tiny_budgets(&panel);
             budgets.iter().flat_map(|(b, made)| tiny_walks(kind, *b, *made, most)).collect()
         }
+        Kind::Plain => deep::tiny_calls(&image),
         Kind::Bound => vec![],
     }
 }

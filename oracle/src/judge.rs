@@ -81,10 +81,52 @@ pub fn discarded_by_original(image: &[u8], call: &Call) -> Option<(bool, bool)> 
 }
 
 pub fn outcome(image: &[u8], call: &Call) -> Outcome {
+    within_reach(image, call).expect("a walk within reach")
+}
+
+/// The outcome; none where the plain engine's walk, which has no budget, is too long.
+pub fn within_reach(image: &[u8], call: &Call) -> Option<Outcome> {
     let mut rooms: Vec<Vec<u64>> = call.rooms().into_iter().map(filled).collect();
-    let mut reply = answer(image, call, &mut rooms);
+    let mut reply = match call {
+        Call::Plain { from, .. } => plain_list(image, *from, &mut rooms[0])?,
+        _ => answer(image, call, &mut rooms),
+    };
     reply.resize(reply_words(call.kind()), 0);
-    Outcome { reply, rooms }
+    Some(Outcome { reply, rooms })
+}
+
+/// The units of a walk that are waited for.
+pub const REACH: u64 = 20_000;
+
+/// Under a frontier of 64 the original stops on it exactly when the deepest stack is over 64.
+fn plain_list(image: &[u8], from: u64, out: &mut [u64]) -> Option<Vec<u64>> {
+    let number = rules::panel(image);
+    if number != 0 {
+        return Some(vec![number, 0]);
+    }
+    let budget = Budget { work: REACH, evaluations: u64::MAX, frontier: 64, optima: 1, tie: 0.0 };
+    let walk = open(image).search(budget, Scores::Free, true).expect("the walk");
+    let walk = walk.expect("every score is 0");
+    if !walk.exhausted {
+        return (status(&walk.status) == 5).then(|| vec![42, 0]);
+    }
+    let (written, words) = lay(&walk.listed[walk.natives as usize..], from, out);
+    Some(vec![0, 0, written, words])
+}
+
+/// Assignments one after another, those before `from` left out, until one doesn't fit: how many, and
+/// their words.
+fn lay(listed: &[Vec<u64>], from: u64, out: &mut [u64]) -> (u64, u64) {
+    let (mut written, mut words) = (0, 0);
+    for a in listed.iter().skip(usize::try_from(from).unwrap_or(usize::MAX)) {
+        if a.len() > out.len() - words {
+            break;
+        }
+        out[words..words + a.len()].copy_from_slice(a);
+        words += a.len();
+        written += 1;
+    }
+    (written, words as u64)
 }
 
 fn answer(image: &[u8], call: &Call, rooms: &mut [Vec<u64>]) -> Vec<u64> {
@@ -120,7 +162,7 @@ fn answer(image: &[u8], call: &Call, rooms: &mut [Vec<u64>]) -> Vec<u64> {
                 vec![0, 0, normal.len() as u64]
             }
         },
-        Call::List { budget: b, from, frames, slot, out } => {
+        Call::List { budget: b, from, frames, slot, .. } => {
             let number = rules::budget(b);
             if number != 0 {
                 return vec![number, 0];
@@ -133,18 +175,10 @@ fn answer(image: &[u8], call: &Call, rooms: &mut [Vec<u64>]) -> Vec<u64> {
             let walk = walk.expect("every score is 0");
             leave_frames(&walk, &mut rooms[0][..needs.frames]);
             rooms[1][..needs.slot].fill(0);
-            let (mut written, mut words) = (0, 0);
-            for a in walk.listed.iter().skip(usize::try_from(*from).unwrap_or(usize::MAX)) {
-                if a.len() > out - words {
-                    break;
-                }
-                rooms[2][words..words + a.len()].copy_from_slice(a);
-                words += a.len();
-                written += 1;
-            }
+            let (written, words) = lay(&walk.listed, *from, &mut rooms[2]);
             // Nothing is discarded in a listing, whatever max_optima is.
             let status = if walk.exhausted { 1 } else { status(&walk.status) };
-            vec![0, 0, status, written, words as u64, walk.evaluations]
+            vec![0, 0, status, written, words, walk.evaluations]
         }
         Call::Search { budget: b, scores, frames, kept, kept_scores } => {
             let number = rules::budget(b);
@@ -180,6 +214,7 @@ fn answer(image: &[u8], call: &Call, rooms: &mut [Vec<u64>]) -> Vec<u64> {
                 Some(bound) => vec![0, 0, 1, bound.to_bits()],
             }
         }
+        Call::Plain { .. } => unreachable!("its walk may be out of reach"),
     }
 }
 
@@ -330,9 +365,25 @@ pub fn used_words(words: &[u64]) -> usize {
     at
 }
 
+/// Assignments that stand one after another, apart.
+pub fn assignments(words: &[u64]) -> Vec<&[u64]> {
+    let mut all = Vec::new();
+    let mut rest = words;
+    while !rest.is_empty() {
+        let (one, later) = rest.split_at(used_words(rest));
+        all.push(one);
+        rest = later;
+    }
+    all
+}
+
+fn assignment_lines(words: &[u64]) -> String {
+    assignments(words).iter().map(|one| format!("assignment {}\n", spaced(one))).collect()
+}
+
 /// An outcome for reading: the reply's words, then those of the rooms that were written.
 pub fn text(image: &[u8], call: &Call) -> String {
-    let found = outcome(image, call);
+    let Some(found) = within_reach(image, call) else { return "too long\n".into() };
     if found.reply[0] != 0 {
         return format!("refused {} {}\n", found.reply[0], found.reply[1]);
     }
@@ -347,20 +398,18 @@ pub fn text(image: &[u8], call: &Call) -> String {
         Call::Bucket { .. } => format!("bucket {} {}\n", r[0], r[1]),
         Call::Check { .. } => format!("legal {}\n", spaced(&found.rooms[0][..r[0] as usize])),
         Call::List { .. } => {
-            let mut text = format!(
+            let text = format!(
                 "status {}\nwritten {}\nwords {}\nevaluations {}\n",
                 STATUSES[r[0] as usize - 1],
                 r[1],
                 r[2],
                 r[3]
             );
-            let mut rest = &found.rooms[2][..r[2] as usize];
-            while !rest.is_empty() {
-                let (one, later) = rest.split_at(used_words(rest));
-                text += &format!("assignment {}\n", spaced(one));
-                rest = later;
-            }
-            text
+            text + &assignment_lines(&found.rooms[2][..r[2] as usize])
+        }
+        Call::Plain { .. } => {
+            let text = format!("written {}\nwords {}\n", r[0], r[1]);
+            text + &assignment_lines(&found.rooms[0][..r[1] as usize])
         }
         Call::Search { .. } => spaced(&found.reply) + "\n",
         Call::Bound { .. } if r[0] == 0 => "no bound\n".into(),

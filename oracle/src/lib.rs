@@ -2,6 +2,8 @@
 pub mod calls;
 pub mod compare;
 mod counts;
+mod deep;
+mod engine;
 pub mod examples;
 mod features;
 pub mod gen;

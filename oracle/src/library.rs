@@ -90,6 +90,15 @@ pub struct BoundReply {
     pub bound: f64,
 }
 
+#[repr(C)]
+#[derive(Clone, Copy, Default)]
+pub struct PlainReply {
+    pub refusal: u64,
+    pub place: u64,
+    pub written: u64,
+    pub words: u64,
+}
+
 pub type CheckPanel = unsafe extern "C" fn(*const u8, usize) -> PanelReply;
 pub type PortAtCut = unsafe extern "C" fn(*const u8, usize, u64, u64, bool) -> PortReply;
 pub type HubBucket = unsafe extern "C" fn(*const u8, usize, *const u8, usize) -> BucketReply;
@@ -122,6 +131,7 @@ pub type Search = unsafe extern "C" fn(
 ) -> SearchReply;
 
 pub type LowerBound = unsafe extern "C" fn(*const u64, usize, f64) -> BoundReply;
+pub type PlainList = unsafe extern "C" fn(*const u8, usize, u64, *mut u64, usize) -> PlainReply;
 
 /// The calls to compare; one that is not there yet is `None`.
 #[derive(Clone, Copy, Default)]
@@ -133,6 +143,7 @@ pub struct Calls {
     pub list: Option<List>,
     pub search: Option<Search>,
     pub bound: Option<LowerBound>,
+    pub plain: Option<PlainList>,
 }
 
 /// Declares one exported call and puts it into the table, where its feature is on.
@@ -167,6 +178,8 @@ pub fn linked() -> Calls {
         (*const u8, usize, SearchBudget, *const f64, usize, *mut u64, usize, *mut u64, usize,
          *mut f64, usize) -> SearchReply);
     linked!(calls, "bound", bound, panel_routes_lower_bound, (*const u64, usize, f64) -> BoundReply);
+    linked!(calls, "plain", plain, panel_routes_plain_list,
+        (*const u8, usize, u64, *mut u64, usize) -> PlainReply);
     calls
 }
 
@@ -193,6 +206,7 @@ impl Calls {
             Kind::List => self.list.is_some(),
             Kind::Search => self.search.is_some(),
             Kind::Bound => self.bound.is_some(),
+            Kind::Plain => self.plain.is_some(),
         }
     }
 
@@ -275,6 +289,10 @@ impl Calls {
                     let r = self.bound.unwrap()(own.as_ptr(), own.len(), f64::from_bits(*background));
                     inputs_kept &= own == *counts;
                     vec![r.refusal, r.place, r.given, r.bound.to_bits()]
+                }
+                Call::Plain { from, out } => {
+                    let r = self.plain.unwrap()(p, n, *from, rooms[0].as_mut_ptr(), *out);
+                    vec![r.refusal, r.place, r.written, r.words]
                 }
             }
         };

@@ -83,6 +83,9 @@ fn main() {
             print!("{}", judge::text(&[], &Call::Bound { counts, background: f64::to_bits(background) }));
             true
         }
+        ["plain", image, from, out] => {
+            show(image, Call::Plain { from: number(from), out: number(out) as usize })
+        }
         ["large", ports] => large::check(run.seed, number(ports), &run.subject()),
         ["image"] => {
             let job = input();

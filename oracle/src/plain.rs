@@ -45,11 +45,11 @@ pub struct Lane {
 #[derive(Clone, Debug)]
 pub struct Panel {
     k: u64,
-    lanes: Vec<Lane>,
-    families: Vec<Range<usize>>,
+    pub lanes: Vec<Lane>,
+    pub families: Vec<Range<usize>>,
     paths: Vec<usize>,
     own: Vec<Port>,
-    global: Vec<Port>,
+    pub global: Vec<Port>,
 }
 
 fn word(image: &[u8], at: usize) -> u64 {
@@ -170,11 +170,11 @@ impl Panel {
         }
     }
 
-    fn cut(&self, port: &Port) -> u64 {
+    pub fn cut(&self, port: &Port) -> u64 {
         port.anchor + self.shift(port.reverse)
     }
 
-    fn lane_ports(&self, lane: usize) -> &[Port] {
+    pub fn lane_ports(&self, lane: usize) -> &[Port] {
         &self.own[self.lanes[lane].ports.clone()]
     }
 
@@ -212,7 +212,7 @@ impl Panel {
         self.families.iter().map(Range::len).max().unwrap_or(0)
     }
 
-    fn targets(&self, family: usize) -> &[usize] {
+    pub fn targets(&self, family: usize) -> &[usize] {
         &self.paths[self.families[family].clone()]
     }
 }
@@ -241,10 +241,10 @@ impl Segment {
             self.end
         }
     }
-    fn shares_a_base(&self, other: &Segment) -> bool {
+    pub fn shares_a_base(&self, other: &Segment) -> bool {
         self.source == other.source && self.start < other.end && other.start < self.end
     }
-    fn words(&self) -> [u64; 4] {
+    pub fn words(&self) -> [u64; 4] {
         [self.source as u64, self.start, self.end, u64::from(self.reverse)]
     }
 }

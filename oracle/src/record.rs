@@ -38,6 +38,7 @@ pub fn arguments(call: &Call) -> Vec<u64> {
             [&budget[..], &lengths, scores].concat()
         }
         Call::Bound { counts, background } => [&[*background, counts.len() as u64], &counts[..]].concat(),
+        Call::Plain { from, out } => vec![*from, *out as u64],
     }
 }
 
@@ -71,6 +72,7 @@ fn call(kind: u64, words: &[u64]) -> Option<Call> {
         (8, [background, n, rest @ ..]) if rest.len() as u64 == *n => {
             Call::Bound { counts: rest.to_vec(), background: *background }
         }
+        (9, [from, out]) => Call::Plain { from: *from, out: *out as usize },
         _ => return None,
     })
 }
@@ -84,6 +86,7 @@ pub fn expected(image: &[u8], call: &Call, o: &Outcome) -> Vec<u64> {
     match call {
         Call::Panel | Call::Port { .. } | Call::Bucket { .. } | Call::Bound { .. } => {}
         Call::Check { .. } => words.extend(&o.rooms[0][..o.reply[2] as usize]),
+        Call::Plain { .. } => words.extend(&o.rooms[0][..o.reply[3] as usize]),
         Call::List { budget, .. } => {
             let needed = rules::needs(image, budget).frames;
             // A record in use is never all zero: its terminal or its port word is not,

@@ -5,7 +5,7 @@ use crate::{
     examples, features,
     gen::{self, Edit, Input, Size},
     judge, plain, record, rules,
-    spec::Spec,
+    spec::{PortSpec, Spec},
     stand_in,
 };
 use std::{
@@ -319,6 +319,33 @@ fn bounds() -> Vec<Call> {
     cases.map(|(b, counts)| Call::Bound { counts: counts.into(), background: b.to_bits() }).into()
 }
 
+/// A family of lanes of four bases, one slot each; with a pair of equal ports the last goes one deeper.
+fn slots(paths: u64, pair: bool) -> Spec {
+    let port = |anchor| PortSpec { word: b"A".to_vec(), source: paths - 1, anchor, reverse: false };
+    let ports = if pair { vec![port(1), port(2)] } else { vec![] };
+    Spec { k: 1, lanes: vec![(4, 0); paths as usize], families: vec![(0..paths).collect()], ports }
+}
+
+/// Panel E with every edge of its list, and stacks of 64 and 65 places.
+fn plain_lists() -> Vec<(Spec, Call)> {
+    let mut all = Vec::new();
+    for from in 0..4 {
+        all.extend([0, 6, 7, 21, 22, 30].map(|out| (Spec::panel_e(), Call::Plain { from, out })));
+    }
+    all.push((Spec::panel_e(), Call::Plain { from: u64::MAX, out: 30 }));
+    for (spec, count) in [(slots(64, false), 1), (slots(63, true), 2), (slots(64, true), 0)] {
+        all.push((spec.clone(), Call::Plain { from: 0, out: 40 }));
+        all.push((spec, Call::Plain { from: count, out: 400 }));
+    }
+    // A family that could be listed, before and behind one that goes too deep.
+    for at in [0, 1] {
+        let mut spec = slots(64, true);
+        spec.families.insert(at, vec![0]);
+        all.push((spec, Call::Plain { from: 0, out: 40 }));
+    }
+    all
+}
+
 fn sample(seed: u64, kind: Kind) -> Vec<Chosen> {
     let mut all = Vec::new();
     let e = Spec::panel_e();
@@ -357,6 +384,10 @@ fn sample(seed: u64, kind: Kind) -> Vec<Chosen> {
         Kind::Bound => {
             all.extend(bounds().into_iter().map(|call| chosen(vec![], call)));
             all.extend(from_random(seed, kind, 4, 8000));
+        }
+        Kind::Plain => {
+            all.extend(plain_lists().into_iter().map(|(spec, call)| chosen(spec.image(), call)));
+            all.extend(from_random(seed, kind, 2, 8000));
         }
     }
     all

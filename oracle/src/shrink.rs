@@ -304,6 +304,22 @@ fn calls(call: &Call) -> Vec<Call> {
                 })
             });
         }
+        Call::Plain { from, out } => {
+            for x in below(*from) {
+                with(&|c| {
+                    if let Call::Plain { from, .. } = c {
+                        *from = x
+                    }
+                });
+            }
+            for x in lengths(*out) {
+                with(&|c| {
+                    if let Call::Plain { out, .. } = c {
+                        *out = x
+                    }
+                });
+            }
+        }
         Call::Bound { counts, background } => {
             for fewer in thinned(counts) {
                 with(&|c| {

@@ -1,5 +1,6 @@
 //! The plain Rust behind the C signatures, for comparing before the library has them.
 use crate::{
+    engine,
     library::*,
     plain::{self, Budget, Panel, Refusal},
 };
@@ -14,6 +15,7 @@ pub fn calls() -> Calls {
         list: Some(list),
         search: Some(search),
         bound: Some(lower_bound),
+        plain: Some(plain_list),
     }
 }
 
@@ -158,5 +160,19 @@ unsafe extern "C" fn lower_bound(counts: *const u64, len: usize, background: f64
         Err(r) => refused!(BoundReply, r),
         Ok(None) => BoundReply::default(),
         Ok(Some(bound)) => BoundReply { given: 1, bound, ..Default::default() },
+    }
+}
+
+unsafe extern "C" fn plain_list(
+    image: *const u8,
+    len: usize,
+    from: u64,
+    out: *mut u64,
+    out_len: usize,
+) -> PlainReply {
+    let panel = Panel::parse(read(image, len));
+    match panel.and_then(|p| engine::list(&p, from, lend(out, out_len))) {
+        Err(r) => refused!(PlainReply, r),
+        Ok((written, words)) => PlainReply { written, words, ..Default::default() },
     }
 }
