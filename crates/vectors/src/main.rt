@@ -3,6 +3,7 @@
 
 mod assignments;
 mod bounds;
+mod engine;
 mod listings;
 mod lookups;
 mod printed;
@@ -66,6 +67,7 @@ fn answered(h: Head, image: &[u8], body: &[u8]) -> bool {
         6 => searches::is_search(image, body, arguments, at, end),
         7 => printed::is_job(image, body, at, end),
         8 => bounds::is_bound(body, arguments, at, end),
+        9 => engine::is_plain(image, body, arguments, at, end),
         _ => false,
     }
 }
@@ -80,6 +82,7 @@ struct Sheet {
     search: Score,
     job: Score,
     bound: Score,
+    plain: Score,
     unknown: Score,
 }
 
@@ -110,6 +113,9 @@ impl Sheet {
             }
             8 => {
                 s.bound = s.bound.counted(is_same);
+            }
+            9 => {
+                s.plain = s.plain.counted(is_same);
             }
             _ => {
                 s.unknown = s.unknown.counted(is_same);
@@ -183,6 +189,7 @@ fn main() {
         search: none,
         job: none,
         bound: none,
+        plain: none,
         unknown: none,
     };
     let mut turns: u64 = 1000000;
@@ -206,5 +213,6 @@ fn main() {
     print(b"search ", sheet.search);
     print(b"job ", sheet.job);
     print(b"bound ", sheet.bound);
+    print(b"plain ", sheet.plain);
     print(b"unknown ", sheet.unknown);
 }

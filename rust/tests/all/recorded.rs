@@ -203,6 +203,23 @@ fn bounds() {
 }
 
 #[test]
+fn plain_lists() {
+    replay("plain.bin", &[], |r| {
+        let from = usize::try_from(r.arguments[0]).unwrap_or(usize::MAX);
+        let room = r.arguments[1] as usize;
+        let (mut written, mut words) = (0, Vec::new());
+        for assignment in Panel::new(&r.image[..])?.plain_assignments()?.skip(from) {
+            if assignment.words().len() > room - words.len() {
+                break;
+            }
+            words.extend(assignment.words());
+            written += 1;
+        }
+        Ok([vec![written, words.len() as u64], words].concat())
+    });
+}
+
+#[test]
 fn jobs() {
     let mut walked = 0;
     for (i, record) in records("job.bin").iter().enumerate() {
