@@ -3,9 +3,9 @@
 
 mod assignments;
 mod bounds;
-mod engine;
 mod listings;
 mod lookups;
+mod plain;
 mod printed;
 mod record;
 mod rooms;
@@ -67,7 +67,7 @@ fn answered(h: Head, image: &[u8], body: &[u8]) -> bool {
         6 => searches::is_search(image, body, arguments, at, end),
         7 => printed::is_job(image, body, at, end),
         8 => bounds::is_bound(body, arguments, at, end),
-        9 => engine::is_plain(image, body, arguments, at, end),
+        9 => plain::is_plain(image, body, arguments, at, end),
         _ => false,
     }
 }

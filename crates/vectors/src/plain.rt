@@ -3,12 +3,12 @@ use crate::record;
 use crate::rooms;
 
 // The list in the first words of out; more than there are is no call.
-fn plain_in(image: &[u8], from: u64, out: &mut [u64], room: usize) -> plain::PlainReply {
+fn plain_in(image: &[u8], from: u64, out: &mut [u64], room: usize) -> engine::PlainReply {
     if room <= out.len() {
         let first: usize = 0;
         return panel_routes::panel_routes_plain_list(image, from, &mut out[first..room]);
     }
-    plain::PlainReply {
+    engine::PlainReply {
         refusal: u64::MAX,
         place: 0,
         written: 0,
