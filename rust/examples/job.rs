@@ -1,6 +1,7 @@
 //! Jobs of the walk program as readable text, and back.
 //!
-//! `job pack [TEXT]` writes a job, `job unpack [JOB]` its text; without a file they read
+//! `job pack [TEXT]` writes a job, `job unpack [JOB]` its text, `job list [JOB]` all legal
+//! assignments of its panel by the plain engine, which has no budget; without a file they read
 //! standard input. A line is one of these, `#` begins a comment:
 //!
 //! ```text
@@ -26,7 +27,7 @@ use std::{
 
 type Outcome<T> = Result<T, Box<dyn Error>>;
 
-const USAGE: &str = "usage: job pack [TEXT] or job unpack [JOB]";
+const USAGE: &str = "usage: job pack [TEXT], job unpack [JOB] or job list [JOB]";
 
 /// What the lines of a text have said so far.
 struct Text {
@@ -162,6 +163,16 @@ fn unpack(bytes: &[u8]) -> Outcome<String> {
     Ok(text)
 }
 
+/// A line an assignment, numbered as the plain engine numbers them.
+fn list(bytes: &[u8]) -> Outcome<String> {
+    let job = Job::from_bytes(bytes)?;
+    let mut text = String::new();
+    for (i, assignment) in job.panel.plain_assignments()?.enumerate() {
+        writeln!(text, "{}, {}", i + 1, in_a_line(&assignment))?;
+    }
+    Ok(text)
+}
+
 fn input(file: Option<&String>) -> io::Result<Vec<u8>> {
     let mut bytes = Vec::new();
     match file {
@@ -180,6 +191,7 @@ fn run(words: &[String]) -> Outcome<()> {
     let answer = match word.as_str() {
         "pack" => pack(std::str::from_utf8(&input(file)?)?)?,
         "unpack" => unpack(&input(file)?)?.into_bytes(),
+        "list" => list(&input(file)?)?.into_bytes(),
         _ => return Err(USAGE.into()),
     };
     Ok(io::stdout().write_all(&answer)?)
@@ -216,6 +228,14 @@ mod tests {
             let sheet = job.panel.search_with_scores(job.budget.unwrap_or_default(), &job.scores).unwrap();
             assert_eq!(sheet.to_string().into_bytes(), file(&format!("{name}.sheet")));
         }
+    }
+
+    #[test]
+    fn the_legal_assignments_of_the_examples() {
+        let listed = list(&file("panel-e.job")).unwrap();
+        let mosaic = "lane0 0 4 +, lane1 6 8 +, lane0 7 10 +";
+        assert_eq!(listed, format!("1, family 0: lane0 0 10 +\n2, family 0: {mosaic}\n"));
+        assert_eq!(list(&file("mosaic.job")).unwrap().lines().count(), 36);
     }
 
     #[test]

@@ -7,6 +7,8 @@ use lib.ListN.{length}
 use lib.Ieee.{Float}
 use Rattle.bound.specs.declared.BoundReply.{BoundReply}
 use Rattle.bound.specs.Bound.{lowerBound}
+use Rattle.engine.specs.declared.PlainReply.{PlainReply}
+use Rattle.engine.specs.Answer.{plainAnswer, plainOut}
 use Rattle.evaluate.specs.declared.AssignmentReply.{AssignmentReply}
 use Rattle.evaluate.specs.Check.{checkAnswer, checkOut}
 use Rattle.graph.specs.Check.{checked}
@@ -57,3 +59,10 @@ search-rooms-one s b xs rooms x y = one
 -- the reply of the lower bound
 pub bound-one : (counts : List ℕ) (background : Float) (q r : BoundReply) → q ≡ lowerBound counts background → r ≡ lowerBound counts background → q ≡ r
 bound-one counts background q r = one
+
+-- the reply of the plain engine, and out afterwards
+pub plain-one : (s : List ℕ) (from room : ℕ) (q r : PlainReply) → q ≡ plainAnswer s from room → r ≡ plainAnswer s from room → q ≡ r
+plain-one s from room q r = one
+
+pub plain-out-one : (s : List ℕ) (from : ℕ) (out xs ys : List ℕ) → xs ≡ plainOut s from out → ys ≡ plainOut s from out → xs ≡ ys
+plain-out-one s from out xs ys = one
