@@ -49,8 +49,8 @@ search_reply panel_routes_search(const uint8_t *image, size_t image_len, search_
                                  uint64_t *frames, size_t frames_len, uint64_t *kept, size_t kept_len, double *kept_scores, size_t kept_scores_len);
 /* all legal assignments, as the unbudgeted walk hands them over after seeding and numbered from 1 in that order: those with numbers from + 1 on are
    written until one doesn't fit; the rest of out stays. An assignment has at most 322 words. There is no budget, and no count of all: it ends on every
-   panel but may take very long, since the number of mosaics may grow exponentially with the ports; every call goes through the whole walk at least
-   once. Refusal 42, with out unchanged: that walk's deepest stack is over 64 */
+   panel but may take very long, since the number of mosaics may grow exponentially with the ports; every call that is not refused goes through the
+   whole walk at least once. Refusal 42, with out unchanged: that walk's deepest stack is over 64. It needs up to 1.55 MB of stack (x86-64) */
 plain_reply  panel_routes_plain_list(const uint8_t *image, size_t image_len, uint64_t from, uint64_t *out, size_t out_len);
 /* at most minus the sum of (c - background)^2 / background over the counts c above the background; refusal 43: a count of 2^53 or more, or a
    background not finite or not above 0 */

@@ -66,7 +66,7 @@ impl Panel<'_> {
     ///
     /// Here there is no budget, and none is needed: the listing ends on every panel. **It may take
     /// very long**: the number of mosaics may grow exponentially with the ports, and nothing stops
-    /// the search before it has seen them all. Already this call goes through the whole search
+    /// the search before it has seen them all, unless one lies too deep. Already this call goes through the whole search
     /// once, and so does every page of the iterator. On a panel that you do not know, ask
     /// [`Panel::assignments`] first, whose budgets bound the time.
     ///

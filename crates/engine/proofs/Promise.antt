@@ -21,12 +21,11 @@ use Rattle.plain.specs.Steps.{depth, plainMarks, plainList, goesTooDeep, plainR
 use Rattle.plain.specs.Statement.{deepestOf}
 use Rattle.plain.proofs.Whole.{plain-lists, plain-refuses, plain-once}
 use Rattle.engine.specs.declared.PlainReply.{PlainReply}
-use Rattle.engine.specs.Answer.{refusedPlain, plainAnswer, plainOut, ListsFrom, PlainHolds}
+use Rattle.engine.specs.Answer.{refusedPlain, wrote, plainAnswer, plainOut, ListsFrom, PlainHolds}
 
 module _ (s : List ℕ) (from : ℕ) (out : List ℕ) where
   abbrev told : PlainReply
-  told =
-      record { refusal = 0; place = 0; written = length (written from (length out) (plainList (panelOf s))); words = length (flat (written from (length out) (plainList (panelOf s)))) }
+  told = wrote (written from (length out) (plainList (panelOf s)))
 
   -- by whether the panel is refused
   answered : (b : Bool) → eqb (plainRefusal s .number) 0 ≡ b → plainAnswer s from (length out) ≡ pick b told (refusedPlain (plainRefusal s))
@@ -94,6 +93,7 @@ module _ (s : List ℕ) (from : ℕ) (out : List ℕ) where
       record {
         unsound = λ f. number ∙ rw (of-unsound f) refl;
         sound = λ e. rw number (sound-number (goesTooDeep (plainMarks (panelOf s))) e refl);
+        ends = accepted-unbudgeted s;
         deep = λ e u. rw number (plain-refuses s e u);
         refused = none;
         lists = λ e. let n = sym number ∙ e in lists-from (accepts (eqb (panelRefusal s) 0) refl n) n r out′ is left;

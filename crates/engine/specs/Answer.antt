@@ -17,15 +17,17 @@ use Rattle.plain.specs.Steps.{depth, plainList, plainRefusal}
 use Rattle.plain.specs.Statement.{deepestOf, EachLegalOnce}
 use Rattle.engine.specs.declared.PlainReply.{PlainReply}
 
+-- these were written
+abbrev pub wrote : List (List ℕ) → PlainReply
+wrote ws = record { refusal = 0; place = 0; written = length ws; words = length (flat ws) }
+
 abbrev pub refusedPlain : Refusal → PlainReply
 refusedPlain r = record { refusal = r .number; place = r .place; written = 0; words = 0 }
 
 -- "under the listing call's rule on from and room. It answers how many it wrote and their words": the panel's bytes, how many to skip, the words of room in out
 unfoldable pub plainAnswer : List ℕ → ℕ → ℕ → PlainReply
 plainAnswer s from room =
-    pick (eqb (plainRefusal s .number) 0)
-    (record { refusal = 0; place = 0; written = length (written from room (plainList (panelOf s))); words = length (flat (written from room (plainList (panelOf s)))) })
-    (refusedPlain (plainRefusal s))
+    pick (eqb (plainRefusal s .number) 0) (wrote (written from room (plainList (panelOf s)))) (refusedPlain (plainRefusal s))
 
 -- out at exit: what is written goes over its beginning, and a refusal leaves it unchanged
 unfoldable pub plainOut : List ℕ → ℕ → List ℕ → List ℕ
@@ -33,7 +35,7 @@ plainOut s from out = pick (eqb (plainRefusal s .number) 0) (over (flat (written
 
 -- ---- what a reply says, in the words of the walk and of legality alone
 
--- a reply that is no refusal: of all legal assignments, in the walk's order, those from number from + 1 on are written, as many as fit
+-- a reply that is no refusal: of all legal assignments, in the walk's order, those from number from + 1 on are written, until one doesn't fit
 pub record ListsFrom (s : List ℕ) (from : ℕ) (out : List ℕ) (r : PlainReply) (out′ : List ℕ) : Type 0 where
   pub all : List Assignment
   pub walked : (u : Unbudgeted (panelOf s)) → u .final .out ≡ nativesOf (panelOf s) ++ all
@@ -47,7 +49,8 @@ pub record PlainHolds (s : List ℕ) (from : ℕ) (out : List ℕ) (r : PlainRep
   -- 1 to 8 as the panel check gives them; of a panel that passes, 42 or none
   pub unsound : (panelRefusal s ≡ 0 → ⊥) → r .refusal ≡ panelRefusal s
   pub sound : panelRefusal s ≡ 0 → (r .refusal ≡ 0) ⊎ (r .refusal ≡ 42)
-  -- "42 exactly when that depth is over 64"
+  -- there is such a walk; "42 exactly when that depth is over 64"
+  pub ends : panelRefusal s ≡ 0 → Unbudgeted (panelOf s)
   pub deep : panelRefusal s ≡ 0 → (u : Unbudgeted (panelOf s)) → (r .refusal ≡ 42) ↔ (depth < deepestOf (panelOf s) u)
   -- "with out unchanged"
   pub refused : (r .refusal ≡ 0 → ⊥) → (out′ ≡ out) × (r .written ≡ 0) × (r .words ≡ 0)

@@ -1,4 +1,5 @@
--- The plain engine's steps over the image; nothing here is part of a public promise.
+-- The plain engine's steps over the image; nothing here is part of a public promise. What is left to do at a frame is `remaining`, the
+-- enumeration's, since the walk's units are proved to do it.
 use Prim.Native.Nat.{ℕ, _+_, _-_, _*_, _≤_, _<_}
 use mathlib.Core.Path.{_≡_}
 use mathlib.Core.Bool.{Bool, true, false, _||_}
@@ -33,6 +34,7 @@ use Rattle.listing.specs.Inner.{listsFrom, filledWith, noneListed}
 use Rattle.engine.specs.declared.Here.{Here}
 use Rattle.engine.specs.declared.Told.{Told}
 use Rattle.engine.specs.declared.PlainReply.{PlainReply}
+use Rattle.engine.specs.Answer.{refusedPlain, wrote}
 use Rattle.plain.specs.Steps.{depth, Mark, Marks, taskMarks, hubMarks, listed, goesTooDeep, placeMarks, plainMarks, plainList}
 
 -- a record of the path for each place, and one more
@@ -186,6 +188,5 @@ Swept out l marks out′ r = Tells (λ ms. map encode (listed ms)) marks out out
 
 -- an answer over an accepted panel
 pub record Replied (p : Panel) (from : ℕ) (out out′ : List ℕ) (r : PlainReply) : Type 0 where
-  pub reply : r ≡ pick (goesTooDeep (plainMarks p)) (record { refusal = 42; place = 0; written = 0; words = 0 })
-      (record { refusal = 0; place = 0; written = length (written from (length out) (plainList p)); words = length (flat (written from (length out) (plainList p))) })
+  pub reply : r ≡ pick (goesTooDeep (plainMarks p)) (refusedPlain (record { number = 42; place = 0 })) (wrote (written from (length out) (plainList p)))
   pub room : out′ ≡ pick (goesTooDeep (plainMarks p)) out (over (flat (written from (length out) (plainList p))) out)

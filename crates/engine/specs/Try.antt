@@ -41,7 +41,7 @@ native = 0 ∷ 1 ∷ 1 ∷ 0 ∷ 0 ∷ 10 ∷ 0 ∷ []
 abbrev mosaic : List ℕ
 mosaic = 0 ∷ 1 ∷ 3 ∷ 0 ∷ 0 ∷ 4 ∷ 0 ∷ 1 ∷ 6 ∷ 8 ∷ 0 ∷ 0 ∷ 7 ∷ 10 ∷ 0 ∷ []
 
--- room for both, for the first, for none; from the second on, and from behind it; one that does not fit is not skipped
+-- room for both, for the first, for none; from the second on, and from behind it
 answers : on panelE .answer 0 22
     ∷ on panelE .answer 0 21
     ∷ on panelE .answer 0 6
@@ -84,6 +84,8 @@ deepPanel =
     word 1 (word 65 (word 1 (word 64 (word 2 (word 80 (word 1640 (word 1648 (word 2160 (word 2196
     (lanes 63 0 (lanes 2 1 (word 64 (lanePaths 64 0 (ports (ports [])))))))))))))))
 
-too-deep : on deepPanel .answer 0 322 ∷ on deepPanel .out 0 (replicate 3 5) ∷ [] ≡ (42 ∷ 0 ∷ 0 ∷ 0 ∷ []) ∷ replicate 3 5 ∷ []
+-- whatever the room, and though the native assignment would fit; a panel that is unsound besides is refused for that
+too-deep : on deepPanel .answer 0 322 ∷ on deepPanel .out 0 (replicate 322 5) ∷ on deepPanel .answer 0 0 ∷ on (deepPanel ++ (0 ∷ [])) .answer 0 322 ∷ []
+    ≡ (42 ∷ 0 ∷ 0 ∷ 0 ∷ []) ∷ replicate 322 5 ∷ (42 ∷ 0 ∷ 0 ∷ 0 ∷ []) ∷ (3 ∷ 0 ∷ 0 ∷ 0 ∷ []) ∷ []
 unfolding on deepPanel lanes lanePaths
 too-deep = refl

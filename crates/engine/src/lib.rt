@@ -26,7 +26,7 @@ use listing::Listing;
 // How far down the engine goes.
 pub const DEPTH: usize = 64;
 
-// The path: a record for each place, and one more, so that a child always has room.
+// The path: a record for each place, and one more, where a place that lies too deep would stand.
 pub const PATH: usize = (DEPTH + 1) * Stored::WORDS;
 
 // The words of an assignment of as many pieces.
@@ -429,7 +429,7 @@ fn list_in(image: &[u8], h: Header, from: u64, out: &mut [u64]) -> PlainReply
     reply(l)
 }
 
-// The legal assignments with numbers from + 1 on, as many as fit into out.
+// The legal assignments with numbers from + 1 on, until one doesn't fit into out.
 pub fn list(image: &[u8], from: u64, out: &mut [u64]) -> PlainReply
     ensures { λ r. ⌜ r ≡ plainAnswer (now (image .entry)) from (length (now (out .entry))) ⌝ }
     ensures { λ r. ⌜ now (out .exit) ≡ plainOut (now (image .entry)) from (now (out .entry)) ⌝ }

@@ -181,7 +181,7 @@ pub extern "C" fn panel_routes_lower_bound(counts: &[u64], background: f64) -> b
     bound::lower_bound(counts, background)
 }
 
-// The plain engine: all legal assignments, without budgets, from number from + 1 on, as many as fit into out.
+// The plain engine: all legal assignments, without budgets, from number from + 1 on, until one doesn't fit into out.
 #[no_mangle]
 pub extern "C" fn panel_routes_plain_list(
     image: &[u8],

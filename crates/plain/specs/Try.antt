@@ -9,8 +9,9 @@ use Rattle.storage.specs.declared.Port.{Port}
 use Rattle.storage.specs.Records.{padded}
 use Rattle.storage.specs.Orders.{wordOrder, portOrder, bucketOf, wordBelow, wordUpTo}
 use Rattle.image.specs.Panel.{Panel, PanelLane}
-use Rattle.evaluate.specs.Segments.{Route}
+use Rattle.evaluate.specs.Segments.{Route, Assignment}
 use Rattle.evaluate.specs.Words.{encode}
+use Rattle.search.specs.Answers.{fitting, written}
 use Rattle.search.specs.Walk.{begins, terminalTask, memberTask}
 use Rattle.plain.specs.Steps.{Mark, gives, tooDeep, hubMarks, portMarks, placeMarks, familyMarks, marksFrom, plainMarks, listed, plainList, goesTooDeep}
 
@@ -53,7 +54,10 @@ depths = refl
 
 -- ---- two families: each family's own, the first family first; a native is there once, as the walk finds it
 
-families : map encode (plainList (E ((0 ∷ []) ∷ (1 ∷ []) ∷ [])))
+abbrev two : List Assignment
+two = plainList (E ((0 ∷ []) ∷ (1 ∷ []) ∷ []))
+
+families : map encode two
     ≡ (0 ∷ 1 ∷ 1 ∷ 0 ∷ 0 ∷ 10 ∷ 0 ∷ [])
     ∷ (0 ∷ 1 ∷ 3 ∷ 0 ∷ 0 ∷ 4 ∷ 0 ∷ 1 ∷ 6 ∷ 8 ∷ 0 ∷ 0 ∷ 7 ∷ 10 ∷ 0 ∷ [])
     ∷ (1 ∷ 1 ∷ 1 ∷ 1 ∷ 0 ∷ 10 ∷ 0 ∷ [])
@@ -61,6 +65,11 @@ families : map encode (plainList (E ((0 ∷ []) ∷ (1 ∷ []) ∷ [])))
     ∷ []
 unfolding hubMarks portMarks placeMarks familyMarks marksFrom plainMarks listed terminalTask memberTask encode all count bucketOf wordBelow wordUpTo wordOrder portOrder
 families = refl
+
+-- from the second on: the mosaic does not fit into 14 words, and the native of the next family, which would, is not written in its place
+unskipped : map length (written 1 14 two) ∷ map length (written 1 15 two) ∷ map length (written 1 22 two) ∷ [] ≡ [] ∷ (15 ∷ []) ∷ (15 ∷ 7 ∷ []) ∷ []
+unfolding hubMarks portMarks placeMarks familyMarks marksFrom plainMarks listed terminalTask memberTask encode all count bucketOf wordBelow wordUpTo wordOrder portOrder written fitting
+unskipped = refl
 
 -- ---- ports fall where the place is reverse
 
