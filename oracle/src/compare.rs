@@ -1,7 +1,7 @@
 //! The judge beside a subject, input by input, to the first difference.
 use crate::{
     calls::{Call, Kind, Outcome},
-    features,
+    deep, features,
     gen::{self, Input, Size},
     judge,
     library::{self, Calls},
@@ -84,6 +84,9 @@ fn judged(image: &[u8], call: &Call) -> Option<(Outcome, bool)> {
 /// Whether the two differ on an input that the original answers with this refusal, or none.
 fn differs(subject: &Calls, input: &Input, refusal: u64) -> bool {
     let image = input.image();
+    if input.call.kind() == Kind::Plain && !deep::is_short(&image) {
+        return false;
+    }
     let Some(wanted) = judge::within_reach(&image, &input.call) else { return false };
     wanted.reply[0] == refusal && subject.make(&image, &input.call) != wanted
 }

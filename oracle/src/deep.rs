@@ -239,6 +239,12 @@ pub fn tiny_calls(image: &[u8]) -> Vec<Call> {
     calls
 }
 
+/// Whether a walk that does not stop at 64 ends soon: an engine that is wrong there comes back.
+pub fn is_short(image: &[u8]) -> bool {
+    let end = |panel| gen::size_of(&panel, 1_024, REACH).2;
+    Panel::parse(image).map_or(true, |panel| end(panel) == Status::Certified)
+}
+
 /// How many assignments the list of an accepted panel has.
 pub fn count(image: &[u8]) -> u64 {
     let panel = Panel::parse(image).expect("an accepted panel");
