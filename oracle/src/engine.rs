@@ -1,5 +1,6 @@
 //! Document 02's item 10 in plain safe Rust: the search without a stored stack. A place calls its
-//! hubs, a hub the next places, with the depth left going down; of the walk it shares nothing.
+//! hubs, a hub the next places, with the depth left going down. Of the walk it has only the panel and
+//! its segments.
 use crate::plain::{Panel, Port, Refusal, Segment};
 
 /// The deepest stack that is listed, its first place counted.
