@@ -24,14 +24,15 @@ use Rattle.graph.specs.Check.{checked, panelRefusal}
 use Rattle.evaluate.specs.declared.Refusal.{Refusal}
 use Rattle.evaluate.specs.declared.AssignmentReply.{AssignmentReply}
 use Rattle.evaluate.specs.Refusals.{noRefusal, unless, at}
-use Rattle.evaluate.specs.Segments.{Assignment, normalize, normalForm, apart, flat}
-use Rattle.evaluate.specs.Words.{Read, malformed, got, decode, encode}
-use Rattle.evaluate.specs.Check.{routesRefusal, overlapRefusal, assignmentRefusal, readRefusal, wordsRefusal, checkRefusal, normalWords, checkAnswer, checkOut}
+use Rattle.evaluate.specs.Segments.{normalize, normalForm, apart, flat}
+use Rattle.evaluate.specs.Words.{encode}
+use Rattle.evaluate.specs.Check.{routesRefusal, overlapRefusal, assignmentRefusal, wordsRefusal, checkRefusal, normalWords, checkAnswer, checkOut, givenRefusal}
 use Rattle.evaluate.proofs.Native.{checked-none}
-use Rattle.words.specs.Inner.{routesOf, assignmentOf, formed, Parsed, Formed, NormalPut}
+use Rattle.words.specs.Inner.{routesOf, assignmentOf, Parsed, Formed, NormalPut}
 use Rattle.words.proofs.Writing.{routes-length}
 use Rattle.overlap.proofs.Given.{apart-given, routes-filled}
 use Rattle.assignment.specs.Inner.{familyRefusal, Replied}
+use Rattle.assignment.proofs.Given.{given-formed}
 
 -- ---- the family of a number
 
@@ -133,22 +134,9 @@ module _ (p : Panel) (ws xs : List ℕ) where
   unfolding wordsRefusal
   short lt = rw (lt-leb (length ws) (length xs) lt)
 
-  module _ (le : length ws ≤ length xs) where
-    many : 65536 < length ws → wordsRefusal p ws (length xs) ≡ record { number = 22; place = 0 }
-    unfolding wordsRefusal
-    many lt = rw (le-leb (length ws) (length xs) le, lt-leb (length ws) 65536 lt)
-
-    module _ (few : length ws ≤ 65536) where
-      read : wordsRefusal p ws (length xs) ≡ readRefusal p (decode ws)
-      unfolding wordsRefusal
-      read = rw (le-leb (length ws) (length xs) le, le-leb (length ws) 65536 few)
-
-      unread : formed (decode ws) ≡ false → wordsRefusal p ws (length xs) ≡ record { number = 22; place = 0 }
-      unread z = read ∙ go (decode ws) z
-        where
-          go : (d : Read Assignment) → formed d ≡ false → readRefusal p d ≡ record { number = 22; place = 0 }
-          go malformed e = refl
-          go (got a us) e = let y : _≡_ {A = ℕ} 0 1 = cc in absurd (omega arith)
+  passed : length ws ≤ length xs → wordsRefusal p ws (length xs) ≡ givenRefusal p ws
+  unfolding wordsRefusal givenRefusal
+  passed le = rw (le-leb (length ws) (length xs) le)
 
 module _ (p : Panel) (ws xs : List ℕ) (q : Refusal) (r : AssignmentReply) (er : r ≡ record { refusal = q .number; place = q .place; words = 0 }) where
   answered : (m : ℕ) → q ≡ record { number = suc m; place = 0 } → wordsRefusal p ws (length xs) ≡ record { number = suc m; place = 0 } → Replied (wordsRefusal p ws (length xs)) ws xs xs r
@@ -156,12 +144,6 @@ module _ (p : Panel) (ws xs : List ℕ) (q : Refusal) (r : AssignmentReply) (er 
 
   pub words-21 : length xs < length ws → q ≡ record { number = 21; place = 0 } → Replied (wordsRefusal p ws (length xs)) ws xs xs r
   words-21 lt e = answered 20 e (short p ws xs lt)
-
-  pub words-22 : length ws ≤ length xs → 65536 < length ws → q ≡ record { number = 22; place = 0 } → Replied (wordsRefusal p ws (length xs)) ws xs xs r
-  words-22 le lt e = answered 21 e (many p ws xs le lt)
-
-  pub words-malformed : length ws ≤ length xs → length ws ≤ 65536 → (b : Bool) → b ≡ formed (decode ws) → b ≡ false → q ≡ record { number = 22; place = 0 } → Replied (wordsRefusal p ws (length xs)) ws xs xs r
-  words-malformed le few b f z e = answered 21 e (unread p ws xs le few (sym f ∙ z))
 
 accepted-reply : (q : Refusal) (ws xs ys : List ℕ) (r : AssignmentReply) (n : ℕ) → Formed ws → length ws ≤ length xs → q .number ≤ 0 → NormalPut ws xs ys n
     → r ≡ record { refusal = q .number; place = q .place; words = n } → Replied q ws xs ys r
@@ -174,15 +156,15 @@ accepted-reply q ws xs ys r n w le z put e =
     let m : 0 + length (encode (normalForm (assignmentOf ws))) ≡ length (encode (normalForm (assignmentOf ws))) = omega arith in
     record { answer = e ∙ rw (one, w .said, l); room = put .words ∙ sets-eq (encode (normalForm (assignmentOf ws))) xs 0 fits ∙ rw (m, one, w .said) }
 
-module _ (p : Panel) (ws xs ys : List ℕ) (q : Refusal) (r : AssignmentReply) (w : Formed ws) (le : length ws ≤ length xs) (few : length ws ≤ 65536) (eq : q ≡ assignmentRefusal p (assignmentOf ws)) where
+module _ (p : Panel) (ws xs ys : List ℕ) (q : Refusal) (r : AssignmentReply) (le : length ws ≤ length xs) (eq : q ≡ givenRefusal p ws) where
   says : wordsRefusal p ws (length xs) ≡ q
-  says = read p ws xs le few ∙ ap (readRefusal p) (w .said) ∙ sym eq
+  says = passed p ws xs le ∙ sym eq
 
   pub words-refused : 0 < q .number → r ≡ record { refusal = q .number; place = q .place; words = 0 } → Replied (wordsRefusal p ws (length xs)) ws xs xs r
   words-refused z e = subst (λ (x : Refusal). Replied x ws xs xs r) (sym says) (refused-reply q ws xs r z e)
 
   pub words-accepted : (n : ℕ) → q .number ≤ 0 → NormalPut ws xs ys n → r ≡ record { refusal = q .number; place = q .place; words = n } → Replied (wordsRefusal p ws (length xs)) ws xs ys r
-  words-accepted n z put e = subst (λ (x : Refusal). Replied x ws xs ys r) (sym says) (accepted-reply q ws xs ys r n w le z put e)
+  words-accepted n z put e = subst (λ (x : Refusal). Replied x ws xs ys r) (sym says) (accepted-reply q ws xs ys r n (given-formed p ws q eq z) le z put e)
 
 -- ---- 1 to 8
 

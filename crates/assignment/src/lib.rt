@@ -5,7 +5,7 @@ ghost use lib.ListN.{length, getD};
 ghost use Rattle.image.specs.Inner.{Grouped, Groups};
 ghost use Rattle.image.specs.Panel.{panelOf};
 ghost use Rattle.panel.specs.Inner.{Accepted};
-ghost use Rattle.evaluate.specs.Check.{assignmentRefusal, wordsRefusal, checkAnswer, checkOut};
+ghost use Rattle.evaluate.specs.Check.{assignmentRefusal, wordsRefusal, checkAnswer, checkOut, givenRefusal};
 ghost use Rattle.words.specs.Inner.{assignmentOf, Formed};
 ghost use Rattle.assignment.specs.Inner.{familyRefusal, Replied};
 
@@ -74,6 +74,21 @@ fn assignment_refusal(image: &[u8], h: image::Header, words: &[u64]) -> evaluate
     }
 }
 
+// 22 to 31: all that the check refuses but for its room.
+pub fn given_refusal(image: &[u8], h: image::Header, words: &[u64]) -> evaluate::Refusal
+    requires { ⌜ Accepted (now image) h ⌝ }
+    ensures { λ r. ⌜ r ≡ givenRefusal (panelOf (now (image .entry))) (now (words .entry)) ⌝ }
+{
+    if WORDS < words.len() {
+        return refusal(22);
+    }
+    if words::is_well_formed(words) {
+        assignment_refusal(image, h, words)
+    } else {
+        refusal(22)
+    }
+}
+
 fn reply(r: evaluate::Refusal, words: usize) -> evaluate::AssignmentReply
     ensures { λ a. ⌜ a ≡ record { refusal = r .number; place = r .place; words = words } ⌝ }
 {
@@ -94,19 +109,12 @@ fn check_words(
     requires { ⌜ Accepted (now image) h × (length (now words) ≤ length (now out)) ⌝ }
     ensures { λ r. ⌜ Replied (wordsRefusal (panelOf (now (image .entry))) (now (words .entry)) (length (now (out .entry)))) (now (words .entry)) (now (out .entry)) (now (out .exit)) r ⌝ }
 {
-    if WORDS < words.len() {
-        return reply(refusal(22), 0);
+    let r = given_refusal(image, h, words);
+    if 0 < r.number {
+        return reply(r, 0);
     }
-    if words::is_well_formed(words) {
-        let r = assignment_refusal(image, h, words);
-        if 0 < r.number {
-            return reply(r, 0);
-        }
-        let n = words::put_normal(out, words);
-        reply(r, n)
-    } else {
-        reply(refusal(22), 0)
-    }
+    let n = words::put_normal(out, words);
+    reply(r, n)
 }
 
 // 21 to 31, over an accepted panel.

@@ -22,7 +22,7 @@ use Rattle.graph.specs.Check.{panelRefusal}
 use Rattle.evaluate.specs.Segments.{joining, apart}
 use Rattle.graph.specs.Lookups.{portsAt}
 use Rattle.evaluate.specs.Words.{readSegments, readRoutes, readAssignment, decode}
-use Rattle.evaluate.specs.Check.{leaves, jointRefusal, jointsRefusal, normalRefusal, routeRefusal, routesRefusal, overlapRefusal, assignmentRefusal, wordsRefusal, checkRefusal, checkAnswer}
+use Rattle.evaluate.specs.Check.{leaves, jointRefusal, jointsRefusal, normalRefusal, routeRefusal, routesRefusal, overlapRefusal, assignmentRefusal, givenRefusal, wordsRefusal, checkRefusal, checkAnswer}
 use Rattle.evaluate.specs.Legal.{Legal}
 use Rattle.search.specs.declared.SearchBudget.{SearchBudget}
 use Rattle.search.specs.declared.Status.the-variants.{Certified}
@@ -129,7 +129,7 @@ unfolding readSegments readRoutes readAssignment decode IsLe
 within-E = record { said = refl; few = le-by-compare 15 65536 tt; fits = le-by-compare 15 15 tt }
 
 passed-E : checkAnswer panelE mosaicWords 15 .refusal ≡ 0
-unfolding little number each split sum portOf headerOf entryOf entries counts pathCounts paths lanePorts hub families zipLanes panelBy panelOf panelE all any keep wordOrder portsAt standsAt joining apart readSegments readRoutes readAssignment decode leaves jointRefusal jointsRefusal normalRefusal routeRefusal routesRefusal overlapRefusal assignmentRefusal wordsRefusal checkRefusal checkAnswer
+unfolding little number each split sum portOf headerOf entryOf entries counts pathCounts paths lanePorts hub families zipLanes panelBy panelOf panelE all any keep wordOrder portsAt standsAt joining apart readSegments readRoutes readAssignment decode leaves jointRefusal jointsRefusal normalRefusal routeRefusal routesRefusal overlapRefusal assignmentRefusal givenRefusal wordsRefusal checkRefusal checkAnswer
 passed-E = rw (admitted-E .panel)
 
 pub legal-E : Legal (panelOf panelE) mosaicE

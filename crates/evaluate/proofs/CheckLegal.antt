@@ -23,7 +23,7 @@ use Rattle.graph.specs.Lookups.{portsAt}
 use Rattle.storage.specs.Orders.{sameWord}
 use Rattle.evaluate.specs.Words.{got, decode}
 use Rattle.evaluate.specs.Legal.{Enters, Leaves, Joint, LegalRoute, Apart, Legal, SoundSpans}
-use Rattle.evaluate.specs.Check.{mostWords, isEmpty, enters, leaves, matchRefusal, jointRefusal, jointsRefusal, normalRefusal, routeRefusal, routesRefusal, overlapRefusal, andAfter, assignmentRefusal, wordsRefusal, checkRefusal, checkAnswer}
+use Rattle.evaluate.specs.Check.{mostWords, isEmpty, enters, leaves, matchRefusal, jointRefusal, jointsRefusal, normalRefusal, routeRefusal, routesRefusal, overlapRefusal, andAfter, assignmentRefusal, wordsRefusal, givenRefusal, checkRefusal, checkAnswer}
 use Rattle.evaluate.proofs.Bases.{overlap-share, share-overlap, sound-iff}
 use Rattle.evaluate.proofs.NormalForm.{Filled, normal, sound-normal, filled-of}
 use Rattle.evaluate.proofs.Ports.{Rows, rows-of, port-found, port-none, port-one, same-word, word-same-of}
@@ -35,7 +35,7 @@ pub unless-zero : (b : Bool) (n m : ℕ) → unless b (suc n) m ≡ 0 → (b ≡
 unless-zero true n m e = (refl, e)
 unless-zero false n m e = let z : suc n ≡ 0 = e in let x : ⊥ = omega arith in absurd x
 
-at-zero : (n i : ℕ) (later : Refusal) → at n i later .number ≡ 0 → (n ≡ 0) × (later .number ≡ 0)
+pub at-zero : (n i : ℕ) (later : Refusal) → at n i later .number ≡ 0 → (n ≡ 0) × (later .number ≡ 0)
 at-zero zero i later e = (refl, e)
 at-zero (suc n) i later e = let z : suc n ≡ 0 = e in let x : ⊥ = omega arith in absurd x
 
@@ -251,7 +251,7 @@ module _ (p : Panel) (rows : Rows p) (a : Assignment) where
 -- THE CHECK
 pub check-legal : (s ws : List ℕ) (room : ℕ) (a : Assignment) → panelRefusal s ≡ 0 → decode ws ≡ got a [] → length ws ≤ mostWords → length ws ≤ room
     → (checkAnswer s ws room .refusal ≡ 0) ↔ (SoundSpans (panelOf s) a × Legal (panelOf s) (normalForm a))
-unfolding checkAnswer checkRefusal wordsRefusal
+unfolding checkAnswer checkRefusal wordsRefusal givenRefusal
 check-legal s ws room a e said few fits =
     let t = taken s e in
     let rows : Rows (panelOf s) = rows-of s (t .header) (t .accepted) in

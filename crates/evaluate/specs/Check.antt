@@ -87,9 +87,13 @@ abbrev pub readRefusal : Panel → Read Assignment → Refusal
 readRefusal p malformed = record { number = 22; place = 0 }
 readRefusal p (got a ws) = assignmentRefusal p a
 
--- 21, 22: "out shorter than the words given", "assignment words malformed or over the bound"
+-- "the check's from 22 on": 22 is "assignment words malformed or over the bound"
+unfoldable pub givenRefusal : Panel → List ℕ → Refusal
+givenRefusal p ws = at (unless (leb (length ws) mostWords) 22 0) 0 (readRefusal p (decode ws))
+
+-- 21: "out shorter than the words given"
 unfoldable pub wordsRefusal : Panel → List ℕ → ℕ → Refusal
-wordsRefusal p ws room = at (unless (leb (length ws) room) 21 (unless (leb (length ws) mostWords) 22 0)) 0 (readRefusal p (decode ws))
+wordsRefusal p ws room = at (unless (leb (length ws) room) 21 0) 0 (givenRefusal p ws)
 
 -- "every public call applies 1 to 8, then its others by number"
 unfoldable pub checkRefusal : List ℕ → List ℕ → ℕ → Refusal

@@ -23,7 +23,7 @@ use Rattle.graph.specs.Check.{panelRefusal}
 use Rattle.evaluate.specs.Segments.{joining, apart}
 use Rattle.graph.specs.Lookups.{portsAt}
 use Rattle.evaluate.specs.Words.{encode, readSegments, readRoutes, readAssignment, decode}
-use Rattle.evaluate.specs.Check.{mostWords, leaves, jointRefusal, jointsRefusal, normalRefusal, routeRefusal, routesRefusal, overlapRefusal, assignmentRefusal, wordsRefusal, checkRefusal, normalWords, checkAnswer, checkOut}
+use Rattle.evaluate.specs.Check.{mostWords, leaves, jointRefusal, jointsRefusal, normalRefusal, routeRefusal, routesRefusal, overlapRefusal, assignmentRefusal, givenRefusal, wordsRefusal, checkRefusal, normalWords, checkAnswer, checkOut}
 
 -- the refusal, its place and the words of the answer
 abbrev shown : AssignmentReply → List ℕ
@@ -36,7 +36,7 @@ record Calls : Type 0 where
   both : List ℕ → ℕ → Refusal
 
 unfoldable E : Calls
-unfolding little number each split sum all any count keep after rising numbersFrom distinct portOf wordOrder portOrder headerOf sound2 sound3 opened entryOf entries counts pathCounts paths lanePorts hub portsOf startOf families pathsOf zipLanes panelBy panelOf countOk names noTwice sound5a sound5b sound5 lengthOk sound4 letter soundPlace soundRecord soundRecords placeOf placeLt recordLt hubRising laneRising lanesRising samePort listed sound8 from ownRow ownRows sound6 sound7 portsChecked later checked panelE panelRefusal joining apart portsAt standsAt encode readSegments readRoutes readAssignment decode leaves jointRefusal jointsRefusal normalRefusal routeRefusal routesRefusal overlapRefusal assignmentRefusal wordsRefusal checkRefusal normalWords checkAnswer checkOut
+unfolding little number each split sum all any count keep after rising numbersFrom distinct portOf wordOrder portOrder headerOf sound2 sound3 opened entryOf entries counts pathCounts paths lanePorts hub portsOf startOf families pathsOf zipLanes panelBy panelOf countOk names noTwice sound5a sound5b sound5 lengthOk sound4 letter soundPlace soundRecord soundRecords placeOf placeLt recordLt hubRising laneRising lanesRising samePort listed sound8 from ownRow ownRows sound6 sound7 portsChecked later checked panelE panelRefusal joining apart portsAt standsAt encode readSegments readRoutes readAssignment decode leaves jointRefusal jointsRefusal normalRefusal routeRefusal routesRefusal overlapRefusal assignmentRefusal givenRefusal wordsRefusal checkRefusal normalWords checkAnswer checkOut
 E =
     let p = panelOf panelE in
     record {

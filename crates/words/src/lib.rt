@@ -90,7 +90,7 @@ fn is_same_turn(a: bool, b: bool) -> bool
     if a { b } else { !b }
 }
 
-fn lesser(a: u64, b: u64) -> u64
+pub fn lesser(a: u64, b: u64) -> u64
     ensures { λ r. ⌜ r ≡ min a b ⌝ }
 {
     if a < b { a } else { b }
