@@ -88,7 +88,7 @@ fn is_letter_at(image: &[u8], at: usize, k: usize, i: usize) -> bool
 }
 
 // All of them are read: without a way out in between, many are tested at once.
-fn are_letters(image: &[u8], at: usize, k: usize) -> bool
+pub fn are_letters(image: &[u8], at: usize, k: usize) -> bool
     requires { ⌜ (at + k ≤ length (now image)) ⌝ }
     ensures { λ r. ⌜ r ≡ all letter (take k (drop at (now (image .entry)))) ⌝ }
 {

@@ -1,6 +1,6 @@
 -- Laws of the replies, a case each.
 use Prim.Native.Nat.{ℕ}
-use mathlib.Core.Path.{_≡_}
+use mathlib.Core.Path.{_≡_, ap}
 use mathlib.Core.List.{List}
 use Rattle.storage.specs.declared.Port.{Port}
 use Rattle.storage.specs.declared.Members.{Members}
@@ -13,7 +13,9 @@ use Rattle.graph.specs.declared.BucketAnswer.{BucketAnswer}
 use Rattle.graph.specs.declared.BucketAnswer.the-variants.{BadPanel, BadWord, Bucket}
 use Rattle.graph.specs.Check.{checked}
 use Rattle.graph.specs.Lookups.{bucketAnswer}
-use Rattle.panel_routes.specs.Replies.{panelReply, portReply, bucketReply}
+use Rattle.evaluate.specs.declared.Refusal.{Refusal}
+use Rattle.letters.specs.Letters.{lettersAnswer}
+use Rattle.panel_routes.specs.Replies.{panelReply, portReply, bucketReply, lettersReply}
 
 module _ (s : List ℕ) (o : Opened) (e : o ≡ checked s) where
   pub panel-good : (h : Header) → o ≡ Good h → record { refusal = 0; place = 0 } ≡ panelReply (checked s)
@@ -44,3 +46,6 @@ module _ (s w : List ℕ) (a : BucketAnswer) (e : a ≡ bucketAnswer s w) where
 
   pub reply-bucket-here : (b : Members) → a ≡ Bucket b → record { refusal = 0; place = 0; lo = b .lo; hi = b .hi } ≡ bucketReply (bucketAnswer s w)
   reply-bucket-here b t = rw (← e, t)
+
+pub reply-letters : (s d : List ℕ) (r : Refusal) → r ≡ lettersAnswer s d → record { refusal = r .number; place = r .place } ≡ lettersReply (lettersAnswer s d)
+reply-letters s d r e = ap lettersReply e

@@ -17,7 +17,10 @@ use Rattle.search.specs.declared.SearchBudget.{SearchBudget}
 use Rattle.search.specs.declared.SearchReply.{SearchReply}
 use Rattle.search.specs.declared.ListReply.{ListReply}
 use Rattle.search.specs.Answers.{Rooms, ListRooms, searchAnswer, searchRooms, listAnswer, listRooms}
-use Rattle.panel_routes.specs.Replies.{panelReply, portReply, bucketReply}
+use Rattle.letters.specs.Letters.{lettersAnswer}
+use Rattle.spell.specs.declared.SpellReply.{SpellReply}
+use Rattle.spell.specs.Spelling.{spellAnswer, spellOut}
+use Rattle.panel_routes.specs.Replies.{panelReply, portReply, bucketReply, lettersReply}
 use Rattle.panel_routes.specs.declared.PanelReply.{PanelReply}
 use Rattle.panel_routes.specs.declared.PortReply.{PortReply}
 use Rattle.panel_routes.specs.declared.BucketReply.{BucketReply}
@@ -66,3 +69,14 @@ plain-one s from room q r = one
 
 pub plain-out-one : (s : List ℕ) (from : ℕ) (out xs ys : List ℕ) → xs ≡ plainOut s from out → ys ≡ plainOut s from out → xs ≡ ys
 plain-out-one s from out xs ys = one
+
+-- the reply of the letters' check
+pub letters-one : (s d : List ℕ) (q r : PanelReply) → q ≡ lettersReply (lettersAnswer s d) → r ≡ lettersReply (lettersAnswer s d) → q ≡ r
+letters-one s d q r = one
+
+-- the reply of spelling, and out afterwards
+pub spell-one : (s d ws : List ℕ) (slot from to room : ℕ) (q r : SpellReply) → q ≡ spellAnswer s d ws slot from to room → r ≡ spellAnswer s d ws slot from to room → q ≡ r
+spell-one s d ws slot from to room q r = one
+
+pub spell-out-one : (s d ws : List ℕ) (slot from to : ℕ) (out xs ys : List ℕ) → xs ≡ spellOut s d ws slot from to out → ys ≡ spellOut s d ws slot from to out → xs ≡ ys
+spell-out-one s d ws slot from to out xs ys = one

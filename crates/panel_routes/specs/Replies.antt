@@ -8,6 +8,7 @@ use Rattle.graph.specs.declared.BucketAnswer.{BucketAnswer}
 use Rattle.graph.specs.declared.BucketAnswer.the-variants.{BadPanel, BadWord, Bucket}
 use Rattle.graph.specs.Check.{refusalOf}
 use Rattle.graph.specs.Lookups.{portRefusal}
+use Rattle.evaluate.specs.declared.Refusal.{Refusal}
 use Rattle.panel_routes.specs.declared.PanelReply.{PanelReply}
 use Rattle.panel_routes.specs.declared.PortReply.{PortReply}
 use Rattle.panel_routes.specs.declared.BucketReply.{BucketReply}
@@ -29,3 +30,6 @@ abbrev pub bucketReply : BucketAnswer → BucketReply
 bucketReply (BadPanel n) = record { refusal = n; place = 0; lo = 0; hi = 0 }
 bucketReply BadWord = record { refusal = 10; place = 0; lo = 0; hi = 0 }
 bucketReply (Bucket b) = record { refusal = 0; place = 0; lo = b .lo; hi = b .hi }
+
+abbrev pub lettersReply : Refusal → PanelReply
+lettersReply r = record { refusal = r .number; place = r .place }

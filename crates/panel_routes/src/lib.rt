@@ -4,11 +4,14 @@ ghost use Rattle.graph.specs.Check.{checked};
 ghost use Rattle.graph.specs.Lookups.{portAnswer, bucketAnswer};
 ghost use lib.ListN.{length};
 ghost use Rattle.evaluate.specs.Check.{checkAnswer, checkOut};
+ghost use Rattle.letters.specs.Letters.{lettersAnswer};
+ghost use Rattle.spell.specs.Spelling.{spellAnswer, spellOut};
+ghost use Rattle.spell.specs.Theorems.{SpellHolds};
 ghost use Rattle.bound.specs.Bound.{lowerBound};
 ghost use Rattle.bound.specs.Bounded.{BoundHolds};
 ghost use Rattle.search.specs.Answers.{Rooms, searchAnswer, searchRooms, ListRooms, listAnswer, listRooms};
 ghost use Rattle.engine.specs.Answer.{plainAnswer, plainOut, PlainHolds};
-ghost use Rattle.panel_routes.specs.Replies.{panelReply, portReply, bucketReply};
+ghost use Rattle.panel_routes.specs.Replies.{panelReply, portReply, bucketReply, lettersReply};
 
 // Refusal 0: none. Fields that an answer does not use are 0.
 #[repr(C)]
@@ -193,4 +196,34 @@ pub extern "C" fn panel_routes_plain_list(
     ensures { λ r. ⌜ PlainHolds (now (image .entry)) from (now (out .entry)) r (now (out .exit)) ⌝ }
 {
     engine::list(image, from, out)
+}
+
+// Whether the letters are the lanes', lane after lane, and every port's word is what they read.
+#[no_mangle]
+pub extern "C" fn panel_routes_check_letters(image: &[u8], letters: &[u8]) -> PanelReply
+    ensures { λ r. ⌜ r ≡ lettersReply (lettersAnswer (now (image .entry)) (now (letters .entry))) ⌝ }
+{
+    let r = letters::check_letters(image, letters);
+    PanelReply {
+        refusal: r.number,
+        place: r.place,
+    }
+}
+
+// The letters of the route of a slot, from number from up to number to, counted from 0; on a refusal out stays.
+#[no_mangle]
+pub extern "C" fn panel_routes_spell(
+    image: &[u8],
+    letters: &[u8],
+    words: &[u64],
+    slot: u64,
+    from: u64,
+    to: u64,
+    out: &mut [u8],
+) -> spell::SpellReply
+    ensures { λ r. ⌜ r ≡ spellAnswer (now (image .entry)) (now (letters .entry)) (now (words .entry)) slot from to (length (now (out .entry))) ⌝ }
+    ensures { λ r. ⌜ now (out .exit) ≡ spellOut (now (image .entry)) (now (letters .entry)) (now (words .entry)) slot from to (now (out .entry)) ⌝ }
+    ensures { λ r. ⌜ SpellHolds (now (image .entry)) (now (letters .entry)) (now (words .entry)) slot from to (now (out .entry)) r (now (out .exit)) ⌝ }
+{
+    spell::spell(image, letters, words, slot, from, to, out)
 }

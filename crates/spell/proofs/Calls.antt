@@ -1,0 +1,327 @@
+-- What the calls spell: the words of the normal form are answered as those given, and crops around switches are the ports' words.
+use Prim.Native.Nat.{ℕ, suc, _+_, _-_, _/_, _≤_, _<_}
+use native.Mathlib.Omega.{arith}
+use native.Mathlib.Decide.{decLt}
+use mathlib.Core.Path.{_≡_, refl, sym, ap, ap₂, _∙_, subst}
+use mathlib.Core.Bool.{Bool, true, false, _&&_}
+use mathlib.Core.List.{List, [], _∷_, _++_, map, List·Memᴰ, cons≢nil}
+use lib.Dec.{leb, ltb, eqb}
+use lib.Seq.{take-at, drop-at}
+use lib.ListN.{length, take, drop, getD, length-map, length-append, List·getD-map, List·getD-eq-default}
+use borrow.Author.Tests.{le-leb, lt-ltb, ne-eqb}
+use Rattle.storage.specs.Bytes.{part}
+use Rattle.letters.proofs.Pieces.{part-part}
+use Rattle.ground.specs.Lists.{pick}
+use Rattle.ground.proofs.Members.{mem-at}
+use Rattle.image.specs.Panel.{Panel, panelOf}
+use Rattle.image.proofs.Laws.{panel-k}
+use Rattle.graph.specs.Check.{panelRefusal}
+use Rattle.evaluate.specs.declared.Segment.{Segment}
+use Rattle.evaluate.specs.Properties.{Each}
+use Rattle.evaluate.specs.Refusals.{noRefusal, unless}
+use Rattle.evaluate.specs.Segments.{Route, Assignment, SoundSpan, flat, joinable, joined, joining, normalize, normalForm}
+use Rattle.evaluate.specs.Legal.{Legal, SoundSpans}
+use Rattle.evaluate.specs.Words.{got, segmentWords, routeWords, encode, decode}
+use Rattle.evaluate.specs.Check.{readNormal, normalWords, givenRefusal}
+use Rattle.evaluate.proofs.Lists.{append-each, each-append}
+use Rattle.evaluate.proofs.Native.{taken}
+use Rattle.evaluate.proofs.NormalForm.{twice, filled-of, sound-normal}
+use Rattle.evaluate.proofs.Ports.{Rows, rows-of}
+use Rattle.evaluate.proofs.CheckLegal.{accepted-legal, legal-accepted}
+use Rattle.evaluate.proofs.RoundTrips.{decode-encode, encode-decode}
+use Rattle.words.specs.Inner.{assignmentOf}
+use Rattle.words.proofs.Writing.{segment-words-length}
+use Rattle.letters.specs.Letters.{lettersRefusal}
+use Rattle.assignment.proofs.Given.{Given, given}
+use Rattle.spell.specs.Spelling.{spellRoute, crop, routesIn, routeIn, spelled, cropOk, cropRefusal, spellRefusal, spellAnswer, spellOut}
+use Rattle.spell.specs.Theorems.{around, ReadsWord, Switch, switchAt, SameCall, NormalWordsSpellTheSame, CallReadsWord, CallsReadWords, Spells, SpellHolds}
+use Rattle.spell.specs.declared.SpellReply.{SpellReply}
+use Rattle.spell.proofs.Crops.{crop-length, early}
+use Rattle.spell.proofs.Answers.{spans-at}
+use Rattle.spell.proofs.Normal.{normal-spells}
+use Rattle.spell.proofs.Switches.{spell-last, spell-past, switches-read-words}
+use Rattle.spell.proofs.Cuts.{NotRefused, not-refused, refused-not, Fits, fits-of, of-fits, spelled-into}
+
+-- ---- the normal form is no longer
+
+joining-short : (s : Segment) (r : Route) → length (joining s r) ≤ suc (length r)
+unfolding joining
+joining-short s [] = omega arith
+joining-short s (t ∷ r) = go (joinable s t) (joining-short (joined s t) r) (joining-short t r)
+  where
+    go : (b : Bool) → length (joining (joined s t) r) ≤ suc (length r) → length (joining t r) ≤ suc (length r) → length (pick b (joining (joined s t) r) (s ∷ joining t r)) ≤ suc (suc (length r))
+    go true x y = omega arith
+    go false x y = omega arith
+
+normal-short : (r : Route) → length (normalize r) ≤ length r
+normal-short [] = omega arith
+normal-short (s ∷ r) = joining-short s r
+
+words-short : (rs : List Route) → length (routeWords (map normalize rs)) ≤ length (routeWords rs)
+words-short [] = omega arith
+words-short (r ∷ rs) =
+    let a = normal-short r in
+    let b = words-short rs in
+    let c = segment-words-length r in
+    let d = segment-words-length (normalize r) in
+    let e = length-append (segmentWords r) (routeWords rs) in
+    let f = length-append (segmentWords (normalize r)) (routeWords (map normalize rs)) in
+    omega arith
+
+encode-short : (a : Assignment) → length (encode (normalForm a)) ≤ length (encode a)
+unfolding encode
+encode-short a = let e = words-short (a .routes) in omega arith
+
+-- ---- its spans are sound, and it is its own normal form
+
+module _ (p : Panel) where
+  sound-routes : (rs : List Route) → Each (SoundSpan p) (flat rs) → Each (SoundSpan p) (flat (map normalize rs))
+  sound-routes [] ok = tt
+  sound-routes (r ∷ rs) ok =
+      let (x, y) = append-each (SoundSpan p) r (flat rs) ok in
+      each-append (SoundSpan p) (normalize r) (flat (map normalize rs)) (sound-normal p r x) (sound-routes rs y)
+
+  twice-routes : (rs : List Route) → Each (SoundSpan p) (flat rs) → map normalize (map normalize rs) ≡ map normalize rs
+  twice-routes [] ok = refl
+  twice-routes (r ∷ rs) ok =
+      let (x, y) = append-each (SoundSpan p) r (flat rs) ok in
+      ap₂ (λ (q : Route) (l : List Route). q ∷ l) (twice r (filled-of p r x)) (twice-routes rs y)
+
+  pub spells-slot : (d : List ℕ) (rs : List Route) (slot : ℕ) → Each (SoundSpan p) (flat rs) → spellRoute p d (getD (map normalize rs) slot []) ≡ spellRoute p d (getD rs slot [])
+  spells-slot d rs slot ok =
+      ap (spellRoute p d) (List·getD-map normalize rs slot []) ∙ normal-spells p d (getD rs slot []) (filled-of p (getD rs slot []) (spans-at p rs slot ok))
+
+-- a part of a list that begins with a crop, within the crop
+part-of-crop : (l rest : List ℕ) (from to a b k : ℕ) → from ≤ a → b ≤ to → to ≤ length l → a + k ≡ b → part (crop from to l ++ rest) (a - from) k ≡ crop a b l
+part-of-crop l rest from to a b k lo hi far e =
+    let n : length (crop from to l) ≡ to - from = crop-length l from to (omega arith) far in
+    let x : a - from + k ≡ b - from = omega arith in
+    let y : b - from - (a - from) ≡ k = omega arith in
+    let z : from + (a - from) ≡ a = omega arith in
+    let w : b - a ≡ k = omega arith in
+    ap (λ (m : ℕ). part (crop from to l ++ rest) (a - from) m) (sym y) ∙ early (crop from to l) rest (a - from) (b - from) (omega arith) (omega arith)
+    ∙ ap (λ (m : ℕ). part (crop from to l) (a - from) m) y ∙ part-part l from (to - from) (a - from) k (omega arith) (omega arith) ∙ rw (z, w)
+
+spelled-is : (p : Panel) (d ws : List ℕ) (slot from to : ℕ) → spelled p d ws slot from to ≡ crop from to (spellRoute p d (routeIn ws slot))
+unfolding spelled
+spelled-is p d ws slot from to = refl
+
+-- ---- the words
+
+module _ (s d ws : List ℕ) (pn : panelRefusal s ≡ 0) (ln : lettersRefusal (panelOf s) d ≡ 0) (gn : givenRefusal (panelOf s) ws .number ≡ 0) where
+  told : Given (panelOf s) ws
+  told = given (panelOf s) ws gn
+
+  said : decode ws ≡ got (assignmentOf ws) []
+  said = told .formed .said
+
+  rows : Rows (panelOf s)
+  rows = let t = taken s pn in rows-of s (t .header) (t .accepted)
+
+  legal : SoundSpans (panelOf s) (assignmentOf ws) × Legal (panelOf s) (normalForm (assignmentOf ws))
+  legal = accepted-legal (panelOf s) rows (assignmentOf ws) (told .none)
+
+  normal-is : normalWords ws ≡ encode (normalForm (assignmentOf ws))
+  unfolding normalWords
+  normal-is = ap readNormal said
+
+  normal-said : decode (normalWords ws) ≡ got (normalForm (assignmentOf ws)) []
+  normal-said = ap decode normal-is ∙ decode-encode (normalForm (assignmentOf ws))
+
+  normal-few : length (normalWords ws) ≤ 65536
+  normal-few =
+      let e : length (normalWords ws) ≡ length (encode (normalForm (assignmentOf ws))) = ap length normal-is in
+      let f : length (encode (assignmentOf ws)) ≡ length ws = ap length (encode-decode ws [] (assignmentOf ws) said) in
+      let g = encode-short (assignmentOf ws) in
+      let k = told .few in
+      omega arith
+
+  own-form : normalForm (normalForm (assignmentOf ws)) ≡ normalForm (assignmentOf ws)
+  own-form = ap (λ (rs : List Route). record { family = assignmentOf ws .family; routes = rs }) (twice-routes (panelOf s) (assignmentOf ws .routes) (legal .0))
+
+  normal-given : givenRefusal (panelOf s) (normalWords ws) .number ≡ 0
+  unfolding givenRefusal
+  normal-given =
+      rw (le-leb (length (normalWords ws)) 65536 normal-few, normal-said)
+      (legal-accepted (panelOf s) rows (normalForm (assignmentOf ws)) (sound-routes (panelOf s) (assignmentOf ws .routes) (legal .0))
+      (subst (λ (x : Assignment). Legal (panelOf s) x) (sym own-form) (legal .1)))
+
+  given-routes : routesIn (decode ws) ≡ assignmentOf ws .routes
+  given-routes = ap routesIn said
+
+  normal-routes : routesIn (decode (normalWords ws)) ≡ map normalize (assignmentOf ws .routes)
+  normal-routes = ap routesIn normal-said
+
+  same-letters : (slot : ℕ) → spellRoute (panelOf s) d (routeIn (normalWords ws) slot) ≡ spellRoute (panelOf s) d (routeIn ws slot)
+  same-letters slot =
+      ap (λ (rs : List Route). spellRoute (panelOf s) d (getD rs slot [])) normal-routes ∙ spells-slot (panelOf s) d (assignmentOf ws .routes) slot (legal .0)
+      ∙ ap (λ (rs : List Route). spellRoute (panelOf s) d (getD rs slot [])) (sym given-routes)
+
+  same-count : length (routesIn (decode (normalWords ws))) ≡ length (routesIn (decode ws))
+  same-count = ap length normal-routes ∙ length-map (assignmentOf ws .routes) normalize ∙ ap length (sym given-routes)
+
+  same-crop : (slot from to room : ℕ) → cropRefusal (panelOf s) d (normalWords ws) slot from to room ≡ cropRefusal (panelOf s) d ws slot from to room
+  unfolding cropRefusal cropOk
+  same-crop slot from to room =
+      ap₂ (λ (n : ℕ) (w : List ℕ). unless (ltb slot n && ltb from to && leb to (length w)) 41 (unless (leb (to - from) room) 37 0)) same-count (same-letters slot)
+
+  same-refusal : (slot from to room : ℕ) → spellRefusal s d (normalWords ws) slot from to room ≡ spellRefusal s d ws slot from to room
+  unfolding spellRefusal
+  same-refusal slot from to room = rw (pn, ln, normal-given, gn, same-crop slot from to room)
+
+  same-spelled : (slot from to : ℕ) → spelled (panelOf s) d (normalWords ws) slot from to ≡ spelled (panelOf s) d ws slot from to
+  unfolding spelled
+  same-spelled slot from to = ap (crop from to) (same-letters slot)
+
+  same-call : (slot from to : ℕ) (out : List ℕ) → SameCall s d ws (normalWords ws) slot from to out
+  unfolding spellAnswer spellOut
+  same-call slot from to out =
+      record {
+        answer = rw (same-refusal slot from to (length out), same-spelled slot from to);
+        letters = rw (same-refusal slot from to (length out), same-spelled slot from to);
+      }
+
+  -- a slot whose route has a switch is one of the assignment's
+  module _ (slot : ℕ) (before : Route) (u v : Segment) (after : Route) (e : normalize (routeIn ws slot) ≡ before ++ u ∷ v ∷ after) where
+    is : normalize (routeIn ws slot) ≡ getD (map normalize (assignmentOf ws .routes)) slot []
+    is = ap (λ (rs : List Route). normalize (getD rs slot [])) given-routes ∙ sym (List·getD-map normalize (assignmentOf ws .routes) slot [])
+
+    within : slot < length (assignmentOf ws .routes)
+    within = go (decLt slot (length (assignmentOf ws .routes)))
+      where
+        longer : (l m : Route) (x y : Segment) → [] ≡ l ++ x ∷ y ∷ m → ⊥
+        longer [] m x y q = cons≢nil (sym q)
+        longer (z ∷ l) m x y q = cons≢nil (sym q)
+
+        go : Dec (slot < length (assignmentOf ws .routes)) → slot < length (assignmentOf ws .routes)
+        go (yes lt) = lt
+        go (no f) =
+            let n = length-map (assignmentOf ws .routes) normalize in
+            let past : length (map normalize (assignmentOf ws .routes)) ≤ slot = omega arith in
+            absurd (longer before after u v (sym (is ∙ List·getD-eq-default (map normalize (assignmentOf ws .routes)) [] {n = slot} past) ∙ e))
+
+    named : ltb slot (length (routesIn (decode ws))) ≡ true
+    named = lt-ltb slot (length (routesIn (decode ws))) (subst (λ (rs : List Route). slot < length rs) (sym given-routes) within)
+
+    among : List·Memᴰ (normalize (routeIn ws slot)) (map normalize (assignmentOf ws .routes))
+    among =
+        let n = length-map (assignmentOf ws .routes) normalize in
+        let w = within in
+        subst (λ (x : Route). List·Memᴰ x (map normalize (assignmentOf ws .routes))) (sym is) (mem-at [] (map normalize (assignmentOf ws .routes)) slot (omega arith))
+
+  module _ (slot : ℕ) (first : Route) (u v : Segment) (last : Route) (w : Switch (panelOf s) d (normalize (routeIn ws slot)) first u v last) where
+    place : ℕ
+    place = switchAt (panelOf s) d first u
+
+    spells : spellRoute (panelOf s) d (normalize (routeIn ws slot)) ≡ spellRoute (panelOf s) d (routeIn ws slot)
+    spells =
+        normal-spells (panelOf s) d (routeIn ws slot)
+        (filled-of (panelOf s) (routeIn ws slot) (subst (λ (rs : List Route). Each (SoundSpan (panelOf s)) (getD rs slot [])) (sym given-routes) (spans-at (panelOf s) (assignmentOf ws .routes) slot (legal .0))))
+
+    -- the switch stands inside of the route's letters
+    before-it : panelOf s .k / 2 ≤ place
+    unfolding place
+    before-it = let q = spell-last (panelOf s) d first u in let h = w .long in omega arith
+
+    behind-it : place + (panelOf s .k - panelOf s .k / 2) ≤ length (spellRoute (panelOf s) d (routeIn ws slot))
+    unfolding place
+    behind-it =
+        let q = spell-past (panelOf s) d first u v last in
+        let h = w .longToo in
+        let z : length (spellRoute (panelOf s) d (routeIn ws slot)) ≡ length (spellRoute (panelOf s) d (first ++ u ∷ v ∷ last)) = ap length (sym spells) ∙ ap (λ (r : Route). length (spellRoute (panelOf s) d r)) (w .is) in
+        omega arith
+
+    some-k : 1 ≤ panelOf s .k
+    some-k = let t = taken s pn in let f = t .accepted .counted .framed in let k = panel-k s (t .header) f in let o = f .some in omega arith
+
+    around-is : around (panelOf s) d (normalize (routeIn ws slot)) (switchAt (panelOf s) d first u) ≡ spelled (panelOf s) d ws slot (place - panelOf s .k / 2) (place + (panelOf s .k - panelOf s .k / 2))
+    unfolding around spelled place
+    around-is = ap (crop (place - panelOf s .k / 2) (place + (panelOf s .k - panelOf s .k / 2))) spells
+
+    -- the crop around it is the ports' word
+    word-around : ReadsWord (panelOf s) (spelled (panelOf s) d ws slot (place - panelOf s .k / 2) (place + (panelOf s .k - panelOf s .k / 2))) u v
+    word-around =
+        subst (λ (x : List ℕ). ReadsWord (panelOf s) x u v) around-is
+        (switches-read-words s d pn ln (normalForm (assignmentOf ws)) (legal .1) (normalize (routeIn ws slot)) (among slot first u v last (w .is)) first u v last w)
+
+    accepted : (out : List ℕ) → panelOf s .k ≤ length out → spellRefusal s d ws slot (place - panelOf s .k / 2) (place + (panelOf s .k - panelOf s .k / 2)) (length out) ≡ noRefusal
+    accepted out room =
+        let a = before-it in
+        let b = behind-it in
+        let c = some-k in
+        refused-not s d ws slot (place - panelOf s .k / 2) (place + (panelOf s .k - panelOf s .k / 2)) (length out) (record {
+          panel = pn;
+          letters = ln;
+          given = gn;
+          crop = of-fits (panelOf s) d ws slot (place - panelOf s .k / 2) (place + (panelOf s .k - panelOf s .k / 2)) (length out) (record { named = named slot first u v last (w .is); some = omega arith; far = b; short = omega arith });
+        })
+
+    call-reads : (out : List ℕ) → panelOf s .k ≤ length out → CallReadsWord s d ws slot (switchAt (panelOf s) d first u) out u v
+    unfolding place
+    call-reads out room =
+        record {
+          accepted = accepted out room;
+          reads = subst (λ (x : List ℕ). ReadsWord (panelOf s) x u v) (sym (spelled-into s d ws slot (place - panelOf s .k / 2) (place + (panelOf s .k - panelOf s .k / 2)) out (accepted out room))) word-around;
+        }
+
+    -- where the crop has its letters, they stand in what begins with the crop
+    inside : (from to : ℕ) (rest : List ℕ) → to ≤ length (spellRoute (panelOf s) d (routeIn ws slot)) → from ≤ switchAt (panelOf s) d first u - panelOf s .k / 2 → switchAt (panelOf s) d first u + (panelOf s .k - panelOf s .k / 2) ≤ to
+        → ReadsWord (panelOf s) (part (spelled (panelOf s) d ws slot from to ++ rest) (switchAt (panelOf s) d first u - panelOf s .k / 2 - from) (panelOf s .k)) u v
+    unfolding place spelled
+    inside from to rest far lo hi =
+        let a = before-it in
+        subst (λ (x : List ℕ). ReadsWord (panelOf s) x u v) (sym (part-of-crop (spellRoute (panelOf s) d (routeIn ws slot)) rest from to (place - panelOf s .k / 2) (place + (panelOf s .k - panelOf s .k / 2)) (panelOf s .k) lo hi far (omega arith))) word-around
+
+-- For the reader: the second theorem, of the calls.
+pub normal-words-spell-the-same : NormalWordsSpellTheSame
+normal-words-spell-the-same s d ws pn ln gn slot from to out = same-call s d ws pn ln gn slot from to out
+
+-- For the reader: the third theorem, of the calls.
+pub calls-read-words : CallsReadWords
+calls-read-words s d ws pn ln gn slot first u v last w out room = call-reads s d ws pn ln gn slot first u v last w out room
+
+-- ---- what a reply says
+
+module _ (s d ws : List ℕ) (slot from to : ℕ) (xs ys : List ℕ) (r : SpellReply) (er : r ≡ spellAnswer s d ws slot from to (length xs)) (ey : ys ≡ spellOut s d ws slot from to xs) where
+  refused-says : 0 < r .refusal → (r .letters ≡ 0) × (ys ≡ xs)
+  unfolding spellAnswer spellOut
+  refused-says h =
+      let n : eqb (spellRefusal s d ws slot from to (length xs) .number) 0 ≡ false = ne-eqb (spellRefusal s d ws slot from to (length xs) .number) 0 (λ z. let e : r .refusal ≡ 0 = ap (λ (q : SpellReply). q .refusal) er ∙ z in omega arith) in
+      (ap (λ (q : SpellReply). q .letters) er ∙ rw n, ey ∙ rw n)
+
+  module _ (z : r .refusal ≡ 0) where
+    passed : NotRefused s d ws slot from to (length xs)
+    unfolding spellAnswer
+    passed = not-refused s d ws slot from to (length xs) (sym (ap (λ (q : SpellReply). q .refusal) er) ∙ z)
+
+    none : spellRefusal s d ws slot from to (length xs) ≡ noRefusal
+    none = refused-not s d ws slot from to (length xs) passed
+
+    fits : Fits (panelOf s) d ws slot from to (length xs)
+    fits = fits-of (panelOf s) d ws slot from to (length xs) (passed .crop)
+
+    long : length (spelled (panelOf s) d ws slot from to) ≡ to - from
+    unfolding spelled
+    long = let a = fits .some in crop-length (spellRoute (panelOf s) d (routeIn ws slot)) from to (omega arith) (fits .far)
+
+    out-is : ys ≡ spelled (panelOf s) d ws slot from to ++ drop (to - from) xs
+    unfolding spellOut
+    out-is = ey ∙ rw none (ap (λ (n : ℕ). spelled (panelOf s) d ws slot from to ++ drop n xs) long)
+
+    letters-told : r .letters ≡ to - from
+    unfolding spellAnswer
+    letters-told = ap (λ (q : SpellReply). q .letters) er ∙ rw none long
+
+    says : Spells s d ws slot from to xs r ys
+    says =
+        record {
+          told = letters-told;
+          begins = ap (take (to - from)) out-is ∙ take-at (spelled (panelOf s) d ws slot from to) (drop (to - from) xs) (to - from) long ∙ spelled-is (panelOf s) d ws slot from to;
+          rest = ap (drop (to - from)) out-is ∙ drop-at (spelled (panelOf s) d ws slot from to) (drop (to - from) xs) (to - from) long;
+          reads = λ first u v last w lo hi.
+              subst (λ (x : List ℕ). ReadsWord (panelOf s) (part x (switchAt (panelOf s) d first u - panelOf s .k / 2 - from) (panelOf s .k)) u v) (sym out-is)
+              (inside s d ws (passed .panel) (passed .letters) (passed .given) slot first u v last w from to (drop (to - from) xs) (fits .far) lo hi);
+        }
+
+  pub spell-holds : SpellHolds s d ws slot from to xs r ys
+  spell-holds = record { refused = refused-says; spelled = says }

@@ -1,0 +1,4 @@
+pub mod Spelling
+pub mod Inner
+pub mod Theorems
+pub mod Try
