@@ -36,6 +36,9 @@ typedef struct {
 /* written: how many assignments were listed; words: their words, at the front of out */
 typedef struct { uint64_t refusal, place, written, words; } plain_reply;
 
+/* letters: how many bytes of out were written */
+typedef struct { uint64_t refusal, place, letters; } spell_reply;
+
 /* given 1: a bound; refusal 0 and given 0: none, since the running bound stopped being finite */
 typedef struct { uint64_t refusal, place, given; double bound; } bound_reply;
 
@@ -52,6 +55,14 @@ search_reply panel_routes_search(const uint8_t *image, size_t image_len, search_
    panel but may take very long, since the number of mosaics may grow exponentially with the ports; every call that is not refused goes through the
    whole walk at least once. Refusal 42, with out unchanged: that walk's deepest stack is over 64. It needs up to 1.55 MB of stack (x86-64) */
 plain_reply  panel_routes_plain_list(const uint8_t *image, size_t image_len, uint64_t from, uint64_t *out, size_t out_len);
+/* letters: all lanes', lane after lane, only A, C, G and T. Refusal 39: not as many as the lanes have, or another letter; 40: a port whose word is not
+   its k letters from the anchor on, reverse complemented when the port is reverse */
+panel_reply  panel_routes_check_letters(const uint8_t *image, size_t image_len, const uint8_t *letters, size_t letters_len);
+/* out begins with the letters from number from up to number to, counted from 0 and to left out, of the route of that slot as given, a reverse segment
+   reverse complemented; the rest of out stays. Refusals 1 to 8, 39, 40, then 22 to 31 of the words, 41: no such slot, or crop empty or past its route,
+   37: out shorter than to - from; out unchanged. The normal form of the words spells the same */
+spell_reply  panel_routes_spell(const uint8_t *image, size_t image_len, const uint8_t *letters, size_t letters_len, const uint64_t *words, size_t words_len,
+                                uint64_t slot, uint64_t from, uint64_t to, uint8_t *out, size_t out_len);
 /* at most minus the sum of (c - background)^2 / background over the counts c above the background; refusal 43: a count of 2^53 or more, or a
    background not finite or not above 0 */
 bound_reply  panel_routes_lower_bound(const uint64_t *counts, size_t counts_len, double background);

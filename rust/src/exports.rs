@@ -74,6 +74,13 @@ pub struct PlainReply {
 }
 
 #[repr(C)]
+struct SpellReply {
+    refusal: u64,
+    place: u64,
+    letters: u64,
+}
+
+#[repr(C)]
 struct BoundReply {
     refusal: u64,
     place: u64,
@@ -136,6 +143,25 @@ extern "C" {
         out: *mut u64,
         out_len: usize,
     ) -> PlainReply;
+    fn panel_routes_check_letters(
+        image: *const u8,
+        image_len: usize,
+        letters: *const u8,
+        letters_len: usize,
+    ) -> PanelReply;
+    fn panel_routes_spell(
+        image: *const u8,
+        image_len: usize,
+        letters: *const u8,
+        letters_len: usize,
+        words: *const u64,
+        words_len: usize,
+        slot: u64,
+        from: u64,
+        to: u64,
+        out: *mut u8,
+        out_len: usize,
+    ) -> SpellReply;
     fn panel_routes_lower_bound(counts: *const u64, counts_len: usize, background: f64) -> BoundReply;
 }
 
@@ -239,6 +265,40 @@ pub fn plain_list(image: &[u8], from: u64, out: &mut [u64]) -> Result<PlainReply
     given(r.refusal, r.place, r)
 }
 
+pub fn check_letters(image: &[u8], letters: &[u8]) -> Result<(), Refusal> {
+    let r =
+        unsafe { panel_routes_check_letters(image.as_ptr(), image.len(), letters.as_ptr(), letters.len()) };
+    given(r.refusal, r.place, ())
+}
+
+/// How many letters of `out` were written.
+pub fn spell(
+    image: &[u8],
+    letters: &[u8],
+    words: &[u64],
+    slot: u64,
+    from: u64,
+    to: u64,
+    out: &mut [u8],
+) -> Result<u64, Refusal> {
+    let r = unsafe {
+        panel_routes_spell(
+            image.as_ptr(),
+            image.len(),
+            letters.as_ptr(),
+            letters.len(),
+            words.as_ptr(),
+            words.len(),
+            slot,
+            from,
+            to,
+            out.as_mut_ptr(),
+            out.len(),
+        )
+    };
+    given(r.refusal, r.place, r.letters)
+}
+
 pub fn lower_bound(counts: &[u64], background: f64) -> Result<Option<f64>, Refusal> {
     let r = unsafe { panel_routes_lower_bound(counts.as_ptr(), counts.len(), background) };
     given(r.refusal, r.place, (r.given == 1).then_some(r.bound))
@@ -246,8 +306,8 @@ pub fn lower_bound(counts: &[u64], background: f64) -> Result<Option<f64>, Refus
 
 #[cfg(test)]
 mod tests {
-    //! 13 and 21, which the crate's own rooms never call forth; the plain listing's refusals, with
-    //! what they leave in the room.
+    //! 13 and 21, which the crate's own rooms never call forth; the refusals of the plain listing and
+    //! of the letters in their order, with what they leave in the room.
     use super::*;
     use crate::{search::Rooms, PanelBuilder};
     use std::collections::BTreeSet;
@@ -296,15 +356,15 @@ mod tests {
         refusal.number()
     }
 
-    #[test]
-    fn the_plain_listing_refuses_a_panel_as_its_check_does() {
+    /// Holds what a call says of an image, whole, cut off and with bytes changed, to the panel check.
+    fn as_the_panel_check(refusal: impl Fn(&[u8]) -> u64) {
         let mut builder = PanelBuilder::new(2);
         builder.lane(10, 0).lane(10, 1).family([0]).port("AC", 0, 3, false).port("AC", 1, 5, false);
         let image = builder.build().unwrap().image().to_vec();
         let mut seen = BTreeSet::new();
         let mut hold = |image: &[u8]| {
             let number = check_panel(image).err().map_or(0, |r| r.number());
-            assert_eq!(plain_refusal(image), number);
+            assert_eq!(refusal(image), number);
             seen.insert(number);
         };
         (0..image.len()).for_each(|end| hold(&image[..end]));
@@ -319,11 +379,104 @@ mod tests {
     }
 
     #[test]
+    fn the_plain_listing_refuses_a_panel_as_its_check_does() {
+        as_the_panel_check(plain_refusal);
+    }
+
+    #[test]
     fn a_search_that_goes_too_deep() {
         let mut builder = PanelBuilder::new(1);
         (0..65).fold(&mut builder, |b, lane| b.lane(3, lane)).family(0..64).port("A", 63, 1, false);
         assert_eq!(plain_refusal(builder.build().unwrap().image()), 0);
         builder.port("A", 64, 1, false);
         assert_eq!(plain_refusal(builder.build().unwrap().image()), 42);
+    }
+
+    /// The refusal's number and place, zeros for none; it leaves the room as it was, and what stands
+    /// around it.
+    fn spell_refusal(image: &[u8], letters: &[u8], words: &[u64], crop: [u64; 3], room: usize) -> (u64, u64) {
+        let mut bytes = [b'-'; 60];
+        let [slot, from, to] = crop;
+        let found = spell(image, letters, words, slot, from, to, &mut bytes[20..20 + room]);
+        let Err(refusal) = found else { return (0, 0) };
+        assert_eq!(bytes, [b'-'; 60]);
+        (refusal.number(), refusal.place())
+    }
+
+    /// A crop of nothing, in no slot.
+    const NONE: [u64; 3] = [u64::MAX, u64::MAX, 0];
+
+    #[test]
+    fn the_calls_with_letters_refuse_a_panel_as_its_check_does() {
+        as_the_panel_check(|image| {
+            // All the rest is wrong too.
+            let (number, place) = spell_refusal(image, b"ACG", &[], NONE, 0);
+            assert_eq!(check_letters(image, b"ACG"), Err(Refusal::new(number, place)));
+            assert_eq!(place, 0);
+            if number == 39 {
+                0
+            } else {
+                number
+            }
+        });
+    }
+
+    #[test]
+    fn a_spelling_is_refused_by_the_first_that_is_wrong() {
+        let mut builder = PanelBuilder::new(2);
+        builder.lane(10, 0).lane(10, 1).family([0]).family([0, 1]);
+        builder.port("AC", 0, 3, false).port("AC", 1, 5, false);
+        builder.port("GG", 0, 6, false).port("GG", 1, 7, false);
+        let panel = builder.build().unwrap();
+        let letters = b"TTTACTGGTACCCCCACGGC";
+        let wrong: [(&[u8], u64); 6] = [
+            (b"TTTACTGCTACCCCCACGG", 39),
+            (b"TTTACTGCTACCCCCACGGCA", 39),
+            (b"TTTACTGCTACCCCCACGGc", 39),
+            (b"", 39),
+            (b"TTTACTGCTACCCCCACGGC", 40),
+            (b"TTTACTGGTACCCCCACGTC", 40),
+        ];
+        for (letters, number) in wrong {
+            assert_eq!(check_letters(panel.image(), letters), Err(Refusal::new(number, 0)));
+            assert_eq!(spell_refusal(panel.image(), letters, &[], NONE, 0), (number, 0));
+        }
+        assert_eq!(check_letters(panel.image(), letters), Ok(()));
+        let refusal = |words: &[u64], crop, room| spell_refusal(panel.image(), letters, words, crop, room);
+        let second = |segments: &[[u64; 4]]| {
+            [&[1, 2, 1, 0, 0, 10, 0, segments.len() as u64], segments.concat().as_slice()].concat()
+        };
+        let long = [&[0, 1, 16_384][..], &[0, 0, 10, 0].repeat(16_384)].concat();
+        for (words, expected) in [
+            (vec![], (22, 0)),
+            (vec![0, 1, 1, 0, 0, 10, 2], (22, 0)),
+            (vec![u64::MAX, u64::MAX], (22, 0)),
+            (long, (22, 0)),
+            (vec![2, 0], (23, 0)),
+            (vec![0, 0], (24, 0)),
+            (second(&[]), (25, 1)),
+            (second(&[[1, 0, 11, 0]]), (26, 1)),
+            (second(&[[1, 0, 9, 0]]), (27, 1)),
+            (second(&[[1, 0, 3, 0], [1, 4, 10, 0]]), (28, 1)),
+            (second(&[[1, 0, 6, 0], [1, 7, 10, 0]]), (29, 1)),
+            (second(&[[1, 0, 6, 0], [1, 8, 10, 0]]), (30, 1)),
+            (second(&[[1, 0, 6, 0], [0, 4, 7, 0], [1, 8, 10, 0]]), (31, 0)),
+        ] {
+            assert_eq!(refusal(&words, NONE, 0), expected, "{words:?}");
+            let checked = check_assignment(panel.image(), &words, &mut vec![0; words.len()]);
+            assert_eq!(checked, Err(Refusal::new(expected.0, expected.1)));
+        }
+        let mosaic = [0, 1, 3, 0, 0, 4, 0, 1, 6, 8, 0, 0, 7, 10, 0];
+        let top = u64::MAX;
+        for crop in [[1, 0, 9], [top, 0, 9], [0, 9, 9], [0, 5, 4], [0, 0, 10], [0, 0, top], [0, top, top]] {
+            assert_eq!(refusal(&mosaic, crop, 0), (41, 0), "{crop:?}");
+            assert_eq!(refusal(&mosaic, crop, 20), (41, 0), "{crop:?}");
+        }
+        for (crop, size) in [([0, 0, 9], 9), ([0, 0, 1], 1), ([0, 8, 9], 1), ([0, 2, 7], 5)] {
+            for room in 0..size {
+                assert_eq!(refusal(&mosaic, crop, room), (37, 0), "{crop:?}");
+            }
+            assert_eq!(refusal(&mosaic, crop, size), (0, 0), "{crop:?}");
+        }
     }
 }

@@ -64,6 +64,30 @@
 //! [`Panel::plain_assignments`] lists every legal assignment by a second, plain engine, made for
 //! teaching. It has no budget and may take very long; [`Panel::assignments`] has budgets.
 //!
+//! # The DNA behind the ports
+//!
+//! [`Panel::letters`] takes the lanes' letters and holds the word of every port to them;
+//! [`Letters::spell`] then gives the letters of any crop of a legal route:
+//!
+//! ```
+//! # use panel_routes::PanelBuilder;
+//! # let panel = PanelBuilder::new(2)
+//! #     .lane(10, 0)
+//! #     .lane(10, 1)
+//! #     .family([0])
+//! #     .port("AC", 0, 3, false)
+//! #     .port("AC", 1, 5, false)
+//! #     .port("GG", 0, 6, false)
+//! #     .port("GG", 1, 7, false)
+//! #     .build()?;
+//! let letters = panel.letters(b"TTTACTGGTACCCCCACGGC")?;
+//! let all = panel.plain_assignments()?;
+//! let spelled: Vec<Vec<u8>> = all.map(|a| letters.spell_route(&a, 0)).collect::<Result<_, _>>()?;
+//! // The native lane, and the mosaic.
+//! assert_eq!(spelled, [&b"TTTACTGGTA"[..], b"TTTACGGTA"]);
+//! # Ok::<(), Box<dyn std::error::Error>>(())
+//! ```
+//!
 //! # A lower bound
 //!
 //! [`lower_bound`] takes counts and a background, and no panel: what the original reports beside
@@ -81,6 +105,7 @@ mod evaluate;
 mod exports;
 mod graph;
 mod job;
+mod letters;
 mod listing;
 mod page;
 mod plain;
@@ -94,6 +119,7 @@ pub use builder::{BuildError, PanelBuilder};
 pub use evaluate::{Assignment, Segment};
 pub use graph::{Lane, Panel};
 pub use job::Job;
+pub use letters::Letters;
 pub use listing::Assignments;
 pub use plain::PlainAssignments;
 pub use refusal::Refusal;

@@ -12,7 +12,8 @@ impl Refusal {
         Self { number, place }
     }
 
-    /// 1 to 31, by the table of refusals, 42 of the plain listing and 43 of the lower bound.
+    /// 1 to 31, by the table of refusals, 37 and 39 to 41 of the letters, 42 of the plain listing
+    /// and 43 of the lower bound.
     pub fn number(&self) -> u64 {
         self.number
     }
@@ -61,6 +62,10 @@ impl Refusal {
             29 => "no incoming port",
             30 => "words differ",
             31 => "spans overlap",
+            37 => "out too short",
+            39 => "letters: not as many as the lanes have, or one other than A, C, G and T",
+            40 => "letters: a port whose word differs",
+            41 => "spelling: no such slot, or crop empty or past its route",
             42 => "plain listing: the unbudgeted walk's deepest stack is over 64",
             43 => "lower bound: a count of 2^53 or more, or a background not finite or not above 0",
             _ => "a number that the table does not have",
