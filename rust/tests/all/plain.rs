@@ -1,5 +1,8 @@
 //! The plain listing (document 02, item 10), held to the walk's own listing behind its natives.
-use crate::panel_e::{builder_e, panel_e, refused};
+use crate::{
+    panel_e::{builder_e, panel_e, refused},
+    random::Rng,
+};
 use panel_routes::{Assignment, Panel, PanelBuilder, SearchBudget, Status};
 use std::{collections::HashSet, thread};
 
@@ -56,19 +59,6 @@ fn panel_e_has_two() {
 #[test]
 fn no_family_has_none() {
     assert_eq!(listed(&PanelBuilder::new(1).lane(1, 0).build().unwrap()), []);
-}
-
-/// SplitMix64.
-struct Rng(u64);
-
-impl Rng {
-    fn below(&mut self, n: u64) -> u64 {
-        self.0 = self.0.wrapping_add(0x9E37_79B9_7F4A_7C15);
-        let mut z = self.0;
-        z = (z ^ (z >> 30)).wrapping_mul(0xBF58_476D_1CE4_E5B9);
-        z = (z ^ (z >> 27)).wrapping_mul(0x94D0_49BB_1331_11EB);
-        (z ^ (z >> 31)) % n
-    }
 }
 
 /// So many paths, all different.
