@@ -1,12 +1,14 @@
-//! The tuned walk held to the judge, every word of the answers and of the rooms; and the plain
-//! listing held to the tuned one.
+//! The tuned Rust held to the judge, the walk by every word of the answers and of the rooms; and the
+//! plain listing, the letters' check and the spelling held to the tuned ones.
 use crate::tuned::{self, Budget, Panel, Refused};
 use oracle::{
     calls::{filled, reply_words, Call, Kind, Outcome},
-    gen::{self, Size},
+    gen::{self, Rng, Size},
     judge,
     rules::{needs_of, BudgetWords},
+    spec::Spec,
 };
+use panel_routes::{Assignment, Refusal};
 
 fn budget(b: &BudgetWords) -> Budget {
     Budget {
@@ -115,5 +117,91 @@ pub fn plain(count: u64) -> bool {
         compared += u64::from(found.is_some());
     }
     println!("The plain listing is the tuned one behind the natives on {compared} panels.");
+    true
+}
+
+/// Letters for a panel's lanes, of which ports that stand apart read their words; now and then others.
+fn letters_for(rng: &mut Rng, spec: &Spec) -> Vec<u8> {
+    let mut lanes: Vec<Vec<u8>> = Vec::new();
+    for (length, _) in &spec.lanes {
+        // Longer lanes do without.
+        lanes.push((0..(*length).min(1_000)).map(|_| rng.pick(b"ACGT")).collect());
+    }
+    for port in &spec.ports {
+        let mut word = port.word.clone();
+        if port.reverse {
+            word.reverse();
+            word.iter_mut().for_each(|b| *b = b"TGCA"[b"ACGT".iter().position(|l| l == b).unwrap_or(0)]);
+        }
+        let lane = lanes.get_mut(port.source as usize).and_then(|l| l.get_mut(port.anchor as usize..));
+        if let Some(there) = lane.and_then(|l| l.get_mut(..word.len())) {
+            there.copy_from_slice(&word);
+        }
+    }
+    let mut letters = lanes.concat();
+    match rng.below(16) {
+        0 => drop(letters.pop()),
+        1 => letters.push(b'A'),
+        2..=4 if !letters.is_empty() => {
+            let at = rng.below(letters.len() as u64) as usize;
+            letters[at] = rng.pick(b"ACGTACGTacgtN\0\xff");
+        }
+        _ => {}
+    }
+    letters
+}
+
+/// Slot, from and to, mostly within a route of the assignment.
+fn crop_of(rng: &mut Rng, words: &[u64]) -> [u64; 3] {
+    let Ok(assignment) = Assignment::from_words(words) else { return [0, 0, 1] };
+    let past = u64::from(rng.one_in(8));
+    let slot = rng.below(assignment.routes().count() as u64 + past);
+    let route = assignment.routes().nth(slot as usize).into_iter().flatten();
+    let length = route.fold(0, |sum: u64, s| sum.saturating_add(s.bases()));
+    let to = length.saturating_sub(rng.skewed(length));
+    match rng.below(12) {
+        0 => [slot, rng.below(3), length.wrapping_add(rng.below(3))],
+        1 => [rng.pick(&[slot, u64::MAX]), rng.pick(&[0, to, u64::MAX]), rng.pick(&[to, u64::MAX])],
+        2..=4 => [slot, 0, length],
+        _ => [slot, rng.below(to), to],
+    }
+}
+
+/// What the library spells, by the crate's calls one after the other.
+fn spelled(
+    image: &[u8],
+    letters: &[u8],
+    words: &[u64],
+    [slot, from, to]: [u64; 3],
+    out: &mut [u8],
+) -> Result<u64, Refusal> {
+    let panel = panel_routes::Panel::new(image)?;
+    let letters = panel.letters(letters)?;
+    let assignment = Assignment::from_words(words)?;
+    Ok(letters.spell_into(&assignment, slot as usize, from..to, out)? as u64)
+}
+
+/// On so many random panels with letters and assignments; the assignment's check, which the spelling
+/// makes, is held to the judge besides.
+pub fn letters(count: u64) -> bool {
+    let mut read = 0;
+    for i in 0..count {
+        let input = gen::input(1, Kind::Check, i, Size::Small);
+        let (image, rng) = (input.image(), &mut Rng::new(1, 7, i));
+        let Call::Check { words, .. } = &input.call else { unreachable!() };
+        let judged = judge::outcome(&image, &Call::Check { words: words.clone(), out: words.len() }).reply;
+        let checked = tuned::check(&image).and_then(|panel| panel.check_assignment(words).map(|_| ()));
+        let same = checked.err().unwrap_or((0, 0)) == (judged[0], judged[1]);
+        let (letters, crop) = (letters_for(rng, &input.spec), crop_of(rng, words));
+        let mut ours = vec![b'-'; rng.below(200) as usize];
+        let mut room = ours.clone();
+        let spelled = spelled(&image, &letters, words, crop, &mut ours).map_err(|r| (r.number(), r.place()));
+        if !same || tuned::spell(&image, &letters, words, crop, &mut room) != spelled || ours != room {
+            eprintln!("the tuned check, or the spelling, differs in check {i}");
+            return false;
+        }
+        read += u64::from(spelled.is_ok());
+    }
+    println!("The spelling is the tuned one on {count} panels with letters, {read} crops of them spelled.");
     true
 }

@@ -202,6 +202,96 @@ fn assignment_check(name: &str, spec: &Spec, pieces: u64) -> Row {
     Row::new(format!("assignment check, {name}, {pieces} segments"), ours).tuned(tuned)
 }
 
+/// A panel, and letters that its ports read.
+struct Lettered {
+    spec: Spec,
+    letters: Vec<u8>,
+}
+
+/// Pairs of lanes of random letters, the second of each the first turned, with so many ports on each lane:
+/// where the first has one, the second has one of that word in the other orientation.
+fn lettered(pairs: u64, length: u64, each: u64, k: u64) -> Lettered {
+    let turned = |letters: &[u8]| -> Vec<u8> {
+        letters.iter().rev().map(|b| b"TGCA"[b"ACGT".iter().position(|l| l == b).unwrap()]).collect()
+    };
+    let mut rng = Rng::new(SEED, 7, each);
+    let (mut letters, mut ports) = (Vec::new(), Vec::new());
+    let step = length / each;
+    for pair in 0..pairs {
+        let lane: Vec<u8> = (0..length).map(|_| rng.pick(b"ACGT")).collect();
+        for i in 0..each {
+            let (anchor, reverse) = (i * step + rng.below((step + 1).saturating_sub(k)), rng.one_in(2));
+            let there = &lane[anchor as usize..][..k as usize];
+            let word = if reverse { turned(there) } else { there.to_vec() };
+            ports.push(PortSpec { word: word.clone(), source: 2 * pair, anchor, reverse });
+            let anchor = length - anchor - k;
+            ports.push(PortSpec { word, source: 2 * pair + 1, anchor, reverse: !reverse });
+        }
+        letters.extend([lane.clone(), turned(&lane)].concat());
+    }
+    let lanes = vec![(length, 0); 2 * pairs as usize];
+    Lettered { spec: Spec { k, lanes, families: vec![vec![0]], ports }, letters }
+}
+
+impl Lettered {
+    /// Lane 0 from end to end.
+    fn forward(&self) -> Assignment {
+        let whole = Segment { source: 0, start: 0, end: self.spec.lanes[0].0, reverse: false };
+        Assignment::new(0, [[whole]]).unwrap()
+    }
+
+    /// The same letters, between the outermost forward ports of lane 0 by way of lane 1 in reverse.
+    fn reverse(&self) -> Assignment {
+        let length = self.spec.lanes[0].0;
+        let forward = self.spec.ports.iter().filter(|p| p.source == 0 && !p.reverse);
+        let cuts = forward.map(|p| self.spec.cut(p));
+        let (out, back) = (cuts.clone().min().unwrap(), cuts.max().unwrap());
+        let home = |start, end| Segment { source: 0, start, end, reverse: false };
+        let other = Segment { source: 1, start: length - back, end: length - out, reverse: true };
+        Assignment::new(0, [[home(0, out), other, home(back, length)]]).unwrap()
+    }
+}
+
+/// Letters that pass, whole calls: the image is checked each time.
+fn letters_check(name: &str, lettered: &Lettered) -> Row {
+    let (image, letters) = (lettered.spec.image(), &lettered.letters[..]);
+    let panel = Panel::new(&image[..]).unwrap();
+    let (ours, passed, tuned, same) = side_by_side(
+        || panel.letters(letters).is_ok(),
+        || tuned::check(&image).is_ok_and(|panel| panel.check_letters(letters).is_ok()),
+    );
+    assert!(passed && same);
+    Row::new(format!("letters check, {name}"), ours).tuned(tuned)
+}
+
+/// A route that reads lane 0, whole calls: the image and the letters are checked each time.
+fn spelling(name: &str, lettered: &Lettered, assignment: &Assignment) -> Row {
+    let (image, letters) = (lettered.spec.image(), &lettered.letters[..]);
+    let panel = Panel::new(&image[..]).unwrap();
+    let checked = panel.letters(letters).unwrap();
+    let length = lettered.spec.lanes[0].0;
+    let [mut out, mut room] = [(); 2].map(|_| vec![0; length as usize]);
+    let (ours, spelled, tuned, same) = side_by_side(
+        || checked.spell_into(assignment, 0, 0..length, &mut out).unwrap(),
+        || tuned::spell(&image, letters, assignment.words(), [0, 0, length], &mut room).unwrap(),
+    );
+    assert_eq!((spelled as u64, same), (length, length));
+    assert!(out == checked.lane(0).unwrap() && out == room);
+    Row::new(format!("spelling, {name}"), ours).tuned(tuned)
+}
+
+/// The panel's check is a part of the others, and timed by itself beside them.
+fn letters(table: &mut Table) {
+    let long = lettered(1, 1_000_000, 25_000, 16);
+    table.put(panel_check("50,000 ports", &long.spec));
+    table.put(letters_check("50,000 ports, 2,000,000 letters", &long));
+    table.put(spelling("50,000 ports, 1,000,000 letters forward", &long, &long.forward()));
+    table.put(spelling("50,000 ports, 1,000,000 letters reverse", &long, &long.reverse()));
+    let wide = lettered(32, 15_637, 15_625, 12);
+    table.put(panel_check("1,000,000 ports that read letters", &wide.spec));
+    table.put(letters_check("1,000,000 ports, 1,000,768 letters", &wide));
+}
+
 /// Counts from the least on, as many different ones as twice the background.
 fn lower_bound(name: &str, n: u64, background: f64, least: u64) -> Row {
     let mut rng = Rng::new(SEED, 12, n);
@@ -243,6 +333,7 @@ fn run(folder: &Path) {
     table.put(assignment_check("1,000,000 ports", &wide, 1));
     table.put(lower_bound("1,000,000 counts, all above", 1_000_000, 50.0, 100));
     table.put(lower_bound("1,000,000 counts, half above", 1_000_000, 50.0, 0));
+    letters(&mut table);
 }
 
 fn main() -> ExitCode {
@@ -250,7 +341,7 @@ fn main() -> ExitCode {
     match words.iter().map(String::as_str).collect::<Vec<_>>()[..] {
         ["agree", count] => {
             let count = count.parse().expect("a count");
-            let agree = agree::with_judge(count) && agree::plain(count);
+            let agree = agree::with_judge(count) && agree::plain(count) && agree::letters(count);
             ExitCode::from(u8::from(!agree))
         }
         [] => {
@@ -260,8 +351,12 @@ fn main() -> ExitCode {
             fs::remove_dir_all(&folder).unwrap();
             ExitCode::SUCCESS
         }
+        ["letters"] => {
+            letters(&mut Table::begin());
+            ExitCode::SUCCESS
+        }
         _ => {
-            eprintln!("usage: bench, or bench agree COUNT");
+            eprintln!("usage: bench, bench letters, or bench agree COUNT");
             ExitCode::from(2)
         }
     }

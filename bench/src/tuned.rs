@@ -1,6 +1,9 @@
 //! The rule of document 01 as an in-memory Rust walk written for speed: every port's hub and
 //! every hub member's landing are tables, the stack's top is held apart, the loop turns once
 //! for each unit and allocates nothing, and the piece up to an open hub is tested once.
+mod letters;
+
+pub use letters::spell;
 use std::ops::Range;
 
 /// A refusal's number and place.
@@ -30,6 +33,8 @@ pub struct Checked<'a> {
     lanes: Vec<Lane>,
     families: Vec<Range<usize>>,
     paths: Vec<usize>,
+    /// The records of the lanes' lists, and of the global one.
+    own: &'a [u8],
     global: &'a [u8],
     /// Twice the anchor of each lane port, and 1 for reverse: in the order of its lane's list.
     keys: Vec<u64>,
@@ -135,7 +140,7 @@ pub fn check(image: &[u8]) -> Result<Checked<'_>, Refused> {
     }
     need(rising, 7)?;
     need(listed, 8)?;
-    Ok(Checked { k, lanes, families, paths, global, keys, places })
+    Ok(Checked { k, lanes, families, paths, own, global, keys, places })
 }
 
 /// A port of a lane: its cut in its own orientation, and its hub.
@@ -169,7 +174,7 @@ pub struct Panel {
 
 impl Panel {
     pub fn new(image: &[u8]) -> Result<Self, Refused> {
-        let Checked { k, lanes, families, paths, global, keys, places } = check(image)?;
+        let Checked { k, lanes, families, paths, global, keys, places, .. } = check(image)?;
         let shift = |reverse: bool| if reverse { k - k / 2 } else { k / 2 } as u64;
         let cut = |key: u64| ((key >> 1) + shift(key & 1 == 1)) as u32;
         let mut outs: Vec<Out> =
