@@ -57,7 +57,7 @@ pub record ReadsWord (p : Panel) (letters : List ℕ) (u v : Segment) : Type 0 w
   pub left : ports .left .word ≡ padded letters (p .k)
   pub right : ports .right .word ≡ padded letters (p .k)
 
--- a switch of a route in normal form, between pieces that are long enough: what is before it, its two pieces, what is behind it
+-- where two pieces of a route meet that are long enough: what is before them, the two, what is behind them; of a route in normal form this is a switch
 pub record Switch (p : Panel) (d : List ℕ) (r : Route) (first : Route) (u v : Segment) (last : Route) : Type 0 where
   pub is : r ≡ first ++ u ∷ v ∷ last
   pub long : before p ≤ length (spellSegment p d u)
