@@ -1,7 +1,8 @@
 //! Links the archive, where one of its calls is asked for.
 use std::{env, path::PathBuf};
 
-const CALLS: [&str; 8] = ["PANEL", "PORT", "BUCKET", "CHECK", "LIST", "SEARCH", "BOUND", "PLAIN"];
+const CALLS: [&str; 10] =
+    ["PANEL", "PORT", "BUCKET", "CHECK", "LIST", "SEARCH", "BOUND", "PLAIN", "LETTERS", "SPELL"];
 
 fn main() {
     println!("cargo:rerun-if-env-changed=PANEL_ROUTES_LIB");

@@ -13,10 +13,22 @@ pub enum Kind {
     /// 7 is a job of the walk program.
     Bound = 8,
     Plain = 9,
+    Letters = 10,
+    Spell = 11,
 }
 
-pub const KINDS: [Kind; 8] =
-    [Kind::Panel, Kind::Port, Kind::Bucket, Kind::Check, Kind::List, Kind::Search, Kind::Bound, Kind::Plain];
+pub const KINDS: [Kind; 10] = [
+    Kind::Panel,
+    Kind::Port,
+    Kind::Bucket,
+    Kind::Check,
+    Kind::List,
+    Kind::Search,
+    Kind::Bound,
+    Kind::Plain,
+    Kind::Letters,
+    Kind::Spell,
+];
 
 impl Kind {
     pub fn name(self) -> &'static str {
@@ -29,6 +41,8 @@ impl Kind {
             Kind::Search => "search",
             Kind::Bound => "bound",
             Kind::Plain => "plain",
+            Kind::Letters => "letters",
+            Kind::Spell => "spell",
         }
     }
     pub fn named(name: &str) -> Option<Self> {
@@ -76,6 +90,19 @@ pub enum Call {
         from: u64,
         out: usize,
     },
+    /// The lanes' letters, lane after lane.
+    Letters {
+        letters: Vec<u8>,
+    },
+    /// A crop of a route; `out` is in bytes.
+    Spell {
+        letters: Vec<u8>,
+        words: Vec<u64>,
+        slot: u64,
+        from: u64,
+        to: u64,
+        out: usize,
+    },
 }
 
 impl Call {
@@ -89,21 +116,28 @@ impl Call {
             Call::Search { .. } => Kind::Search,
             Call::Bound { .. } => Kind::Bound,
             Call::Plain { .. } => Kind::Plain,
+            Call::Letters { .. } => Kind::Letters,
+            Call::Spell { .. } => Kind::Spell,
         }
     }
 
     /// The lengths of the rooms that the call lends, in the order of its arguments.
     pub fn rooms(&self) -> Vec<usize> {
         match *self {
-            Call::Panel | Call::Port { .. } | Call::Bucket { .. } | Call::Bound { .. } => vec![],
-            Call::Check { out, .. } | Call::Plain { out, .. } => vec![out],
+            Call::Panel
+            | Call::Port { .. }
+            | Call::Bucket { .. }
+            | Call::Bound { .. }
+            | Call::Letters { .. } => vec![],
+            Call::Check { out, .. } | Call::Plain { out, .. } | Call::Spell { out, .. } => vec![out],
             Call::List { frames, slot, out, .. } => vec![frames, slot, out],
             Call::Search { frames, kept, kept_scores, .. } => vec![frames, kept, kept_scores],
         }
     }
 }
 
-/// The answer's fields as words in their order, and each room after the call.
+/// The answer's fields as words in their order, and each room after the call; a room of bytes has a
+/// word for each.
 #[derive(Clone, Debug, PartialEq)]
 pub struct Outcome {
     pub reply: Vec<u64>,
@@ -119,13 +153,18 @@ pub fn filled(words: usize) -> Vec<u64> {
     (0..words).map(filler).collect()
 }
 
+/// Likewise in byte i of a room of bytes: no letter.
+pub fn byte_filler(i: usize) -> u8 {
+    0x80 + (i % 127) as u8
+}
+
 /// How many words an answer has.
 pub fn reply_words(kind: Kind) -> usize {
     match kind {
-        Kind::Panel => 2,
+        Kind::Panel | Kind::Letters => 2,
         Kind::Port => 8,
         Kind::Bucket | Kind::Bound | Kind::Plain => 4,
-        Kind::Check => 3,
+        Kind::Check | Kind::Spell => 3,
         Kind::List => 6,
         Kind::Search => 16,
     }

@@ -18,6 +18,30 @@ fn segments(words: &[u64]) -> Vec<(u64, [u64; 4])> {
     out
 }
 
+/// A route in normal form.
+pub fn joined(route: &[[u64; 4]]) -> Vec<[u64; 4]> {
+    let mut out: Vec<[u64; 4]> = Vec::new();
+    for &[lane, start, end, reverse] in route {
+        match out.last_mut() {
+            Some([l, s, _, 1]) if (*l, reverse, *s) == (lane, 1, end) => *s = start,
+            Some([l, _, e, 0]) if (*l, reverse, *e) == (lane, 0, start) => *e = end,
+            _ => out.push([lane, start, end, reverse]),
+        }
+    }
+    out
+}
+
+pub fn length(route: &[[u64; 4]]) -> u64 {
+    route.iter().map(|[_, start, end, _]| end - start).sum()
+}
+
+/// The switches of a route in normal form: how many letters stand before each, and whether the
+/// pieces on its two sides are reverse.
+pub fn switches(normal: &[[u64; 4]]) -> Vec<(u64, bool, bool)> {
+    let sides = |i: usize| (normal[i - 1][3] == 1, normal[i][3] == 1);
+    (1..normal.len()).map(|i| (length(&normal[..i]), sides(i).0, sides(i).1)).collect()
+}
+
 pub fn of(image: &[u8], call: &Call, o: &Outcome) -> Vec<&'static str> {
     let mut found = Vec::new();
     let mut note = |holds: bool, name: &'static str| {
@@ -26,6 +50,16 @@ pub fn of(image: &[u8], call: &Call, o: &Outcome) -> Vec<&'static str> {
         }
     };
     let r = &o.reply;
+    if let (39 | 40, Call::Spell { letters, words, .. }) = (r[0], call) {
+        let taken = judge::taken_by_original(image, letters, words);
+        return match (r[0], taken) {
+            (39, Some(true)) => vec!["39, taken by the original"],
+            (39, Some(false)) => vec!["39, refused at a switch by the original"],
+            (_, Some(true)) => vec!["40, taken by the original"],
+            (_, Some(false)) => vec!["40, refused at a switch by the original"],
+            (_, None) => vec![],
+        };
+    }
     if r[0] != 0 {
         return match (r[0], r[1]) {
             (25..=30, 1..) => vec!["in a later route"],
@@ -110,6 +144,31 @@ pub fn of(image: &[u8], call: &Call, o: &Outcome) -> Vec<&'static str> {
             note(pieces.iter().any(|(_, all)| all.iter().any(|(_, s)| s[3] == 1)), "a reverse piece");
             note(written.iter().any(|a| a[1] > 1), "several routes");
             note(written.iter().any(|a| a[0] > 0), "a later family");
+        }
+        Call::Letters { .. } => {
+            let reverse = rules::is_any_port(image, 1);
+            note(reverse, "a reverse port");
+            note(reverse && rules::is_any_port(image, 0), "ports of both orientations");
+            note(rules::word_at(image, 8) > 1, "several lanes");
+            note(rules::word_at(image, 32) == 0, "no port");
+        }
+        Call::Spell { words, slot, from, to, out, .. } => {
+            let given: Vec<[u64; 4]> =
+                segments(words).into_iter().filter(|(s, _)| s == slot).map(|(_, s)| s).collect();
+            let normal = joined(&given);
+            let inside = switches(&normal).into_iter().filter(|(at, ..)| from < at && at < to);
+            let pairs: Vec<(bool, bool)> = inside.map(|(_, left, right)| (left, right)).collect();
+            note(pairs.contains(&(false, false)), "a switch + to +");
+            note(pairs.contains(&(false, true)), "a switch + to -");
+            note(pairs.contains(&(true, false)), "a switch - to +");
+            note(pairs.contains(&(true, true)), "a switch - to -");
+            note(pairs.len() > 2, "three switches");
+            note(normal.len() < given.len(), "not in normal form");
+            note(normal.len() == 1, "a native route");
+            note(*slot > 0, "a later slot");
+            note(r[2] == length(&given), "a whole route");
+            note(r[2] == 1, "one letter");
+            note(*out as u64 > r[2], "room to spare");
         }
         Call::Bound { counts, background } => {
             let background = f64::from_bits(*background);

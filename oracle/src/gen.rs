@@ -1,7 +1,7 @@
 //! Inputs for the calls, each determined by a seed, a kind and a number.
 use crate::{
     calls::{Call, Kind},
-    counts, deep, plain,
+    counts, deep, lettered, plain,
     rules::{needs_of, BudgetWords},
     spec::{PortSpec, Spec},
 };
@@ -101,12 +101,12 @@ pub enum Size {
 const LETTERS: &[u8] = b"ACGT";
 const TOP: u64 = 4_294_967_295;
 
-fn turned(word: &[u8]) -> Vec<u8> {
+pub fn turned(word: &[u8]) -> Vec<u8> {
     let other = |b: &u8| LETTERS[3 - LETTERS.iter().position(|l| l == b).unwrap()];
     word.iter().rev().map(other).collect()
 }
 
-fn random_word(rng: &mut Rng, k: u64, letters: u64) -> Vec<u8> {
+pub fn random_word(rng: &mut Rng, k: u64, letters: u64) -> Vec<u8> {
     (0..k).map(|_| LETTERS[rng.below(letters) as usize]).collect()
 }
 
@@ -192,7 +192,7 @@ pub fn sound(rng: &mut Rng, size: Size) -> Spec {
     spec
 }
 
-fn family(rng: &mut Rng, lanes: u64) -> Vec<u64> {
+pub fn family(rng: &mut Rng, lanes: u64) -> Vec<u64> {
     let mut all: Vec<u64> = (0..lanes).collect();
     for i in (1..all.len()).rev() {
         all.swap(i, rng.below(i as u64 + 1) as usize);
@@ -224,7 +224,7 @@ fn sites(rng: &mut Rng, spec: &mut Spec, lane: u64, length: u64, pool: &[Vec<u8>
     }
 }
 
-fn push(spec: &mut Spec, source: u64, anchor: u64, declared: bool, word: &[u8], reverse: bool) {
+pub fn push(spec: &mut Spec, source: u64, anchor: u64, declared: bool, word: &[u8], reverse: bool) {
     if declared {
         spec.ports.push(PortSpec { word: word.to_vec(), source, anchor, reverse });
     }
@@ -382,7 +382,7 @@ fn damage(rng: &mut Rng, spec: &Spec, edits: &mut Vec<Edit>) {
     }
 }
 
-fn rng_index(rng: &mut Rng, n: usize) -> usize {
+pub fn rng_index(rng: &mut Rng, n: usize) -> usize {
     rng.below(n as u64) as usize
 }
 
@@ -456,7 +456,7 @@ fn hopping(rng: &mut Rng, spec: &Spec, target: u64) -> Vec<[u64; 4]> {
     route
 }
 
-fn to_words(family: u64, routes: &[Vec<[u64; 4]>]) -> Vec<u64> {
+pub fn to_words(family: u64, routes: &[Vec<[u64; 4]>]) -> Vec<u64> {
     let mut words = vec![family, routes.len() as u64];
     for r in routes {
         words.push(r.len() as u64);
@@ -466,7 +466,7 @@ fn to_words(family: u64, routes: &[Vec<[u64; 4]>]) -> Vec<u64> {
 }
 
 /// Cuts a segment in two that the normal form joins again.
-fn split(rng: &mut Rng, route: &mut Vec<[u64; 4]>) {
+pub fn split(rng: &mut Rng, route: &mut Vec<[u64; 4]>) {
     let i = rng_index(rng, route.len());
     let [lane, start, end, reverse] = route[i];
     if end <= start || end - start < 2 {
@@ -479,7 +479,7 @@ fn split(rng: &mut Rng, route: &mut Vec<[u64; 4]>) {
 }
 
 /// The assignments that a short walk makes.
-fn walked(spec: &Spec) -> Vec<Vec<u64>> {
+pub fn walked(spec: &Spec) -> Vec<Vec<u64>> {
     let Ok(panel) = plain::Panel::parse(&spec.image()) else { return Vec::new() };
     let budget =
         plain::Budget { max_work: 200, max_evaluations: 20, max_frontier: 12, max_optima: 1, tie_width: 0.0 };
@@ -488,7 +488,7 @@ fn walked(spec: &Spec) -> Vec<Vec<u64>> {
     crate::judge::assignments(&out[..listing.words as usize]).into_iter().map(Vec::from).collect()
 }
 
-fn routes_of(words: &[u64]) -> Vec<Vec<[u64; 4]>> {
+pub fn routes_of(words: &[u64]) -> Vec<Vec<[u64; 4]>> {
     let mut at = 2;
     (0..words[1])
         .map(|_| {
@@ -500,7 +500,7 @@ fn routes_of(words: &[u64]) -> Vec<Vec<[u64; 4]>> {
         .collect()
 }
 
-fn check_call(rng: &mut Rng, spec: &Spec, size: Size) -> Call {
+pub fn check_call(rng: &mut Rng, spec: &Spec, size: Size) -> Call {
     let mut family = rng.below(spec.families.len().max(1) as u64);
     let walked = if rng.one_in(2) { walked(spec) } else { Vec::new() };
     let mut routes: Vec<Vec<[u64; 4]>> = if walked.is_empty() {
@@ -552,7 +552,7 @@ fn check_call(rng: &mut Rng, spec: &Spec, size: Size) -> Call {
 }
 
 /// Near the bound of 65,536 words.
-fn long_routes(rng: &mut Rng, spec: &Spec, family: u64, routes: &mut [Vec<[u64; 4]>]) {
+pub fn long_routes(rng: &mut Rng, spec: &Spec, family: u64, routes: &mut [Vec<[u64; 4]>]) {
     let Some(targets) = spec.families.get(family as usize) else { return };
     let Some(&[target]) = targets.get(..1).map(|t| <&[u64; 1]>::try_from(t).unwrap()) else { return };
     let length = spec.lanes.get(target as usize).map_or(0, |l| l.0);
@@ -564,7 +564,7 @@ fn long_routes(rng: &mut Rng, spec: &Spec, family: u64, routes: &mut [Vec<[u64; 
 }
 
 /// A change of an assignment that keeps its words well formed.
-fn bend(rng: &mut Rng, spec: &Spec, family: &mut u64, routes: &mut Vec<Vec<[u64; 4]>>) {
+pub fn bend(rng: &mut Rng, spec: &Spec, family: &mut u64, routes: &mut Vec<Vec<[u64; 4]>>) {
     let r = rng_index(rng, routes.len());
     let n = routes[r].len();
     match rng.below(10) {
@@ -773,9 +773,18 @@ pub fn input(seed: u64, kind: Kind, index: u64, size: Size) -> Input {
         let none = Spec { k: 0, lanes: vec![], families: vec![], ports: vec![] };
         return Input { spec: none, edits: vec![Edit::Truncate(0)], call: counts::call(rng, size) };
     }
-    let mut spec = if kind == Kind::Plain { deep::panel(rng, size) } else { sound(rng, size) };
+    let mut letters = Vec::new();
+    let mut spec = match kind {
+        Kind::Plain => deep::panel(rng, size),
+        Kind::Letters | Kind::Spell => lettered::panel(rng, size, &mut letters),
+        _ => sound(rng, size),
+    };
     let mut edits = Vec::new();
-    let harm = if kind == Kind::Panel { 12 } else { 1 };
+    let harm = match kind {
+        Kind::Panel => 12,
+        Kind::Letters => 3,
+        _ => 1,
+    };
     match rng.below(16) {
         x if x < harm / 3 => spoil(rng, &mut spec),
         x if x < harm => {
@@ -799,6 +808,8 @@ pub fn input(seed: u64, kind: Kind, index: u64, size: Size) -> Input {
         }
         Kind::List | Kind::Search => walk_call(rng, &input.spec, &input.image(), kind, size),
         Kind::Plain => deep::call(rng, &input.image()),
+        Kind::Letters => lettered::letters_call(rng, letters),
+        Kind::Spell => lettered::spell_call(rng, &input.spec, letters, size),
         Kind::Bound => unreachable!("it takes no panel"),
     };
     input
@@ -906,6 +917,7 @@ pub fn tiny_calls(spec: &Spec, kind: Kind) -> Vec<Call> {
             budgets.iter().flat_map(|(b, made)| tiny_walks(kind, *b, *made, most)).collect()
         }
         Kind::Plain => deep::tiny_calls(&image),
+        Kind::Letters | Kind::Spell => lettered::tiny_calls(spec, kind),
         Kind::Bound => vec![],
     }
 }
@@ -932,7 +944,7 @@ fn tiny_checks(spec: &Spec) -> Vec<Call> {
 }
 
 /// A segment as single bases, in its own direction.
-fn unit_pieces(lane: u64, start: u64, end: u64, reverse: u64) -> Vec<[u64; 4]> {
+pub fn unit_pieces(lane: u64, start: u64, end: u64, reverse: u64) -> Vec<[u64; 4]> {
     let mut all: Vec<[u64; 4]> = (start..end).map(|i| [lane, i, i + 1, reverse]).collect();
     if reverse == 1 {
         all.reverse();

@@ -33,6 +33,13 @@ fn open(image: &[u8]) -> Panel {
     Panel::open(image, FILES.get().map(PathBuf::as_path)).expect("an accepted panel opens")
 }
 
+/// The panel with its lanes' letters, which the original's DNA test then reads.
+fn lettered(image: &[u8], letters: &[u8]) -> Panel {
+    let mut panel = open(image);
+    panel.lend(letters);
+    panel
+}
+
 /// Whether an optimum was ever discarded. The original says so only when it has exhausted
 /// the domain, and is held to it there; a stopped walk keeps it to itself.
 fn discarded(walk: &Walk, b: &rules::BudgetWords, scores: &[f64]) -> bool {
@@ -129,6 +136,67 @@ fn lay(listed: &[Vec<u64>], from: u64, out: &mut [u64]) -> (u64, u64) {
     (written, words as u64)
 }
 
+/// 39 and 40 of an accepted panel. The original tests the ports of a switch only; its test made of
+/// every port is held to 40.
+fn letters_refusal(image: &[u8], letters: &[u8]) -> u64 {
+    let number = rules::letters(image, letters);
+    if number != 39 {
+        let stand = lettered(image, letters).words_stand().expect("every port's letters are there");
+        assert_eq!(number == 0, stand, "40 is the original's test of every port");
+    }
+    number
+}
+
+/// A crop of an assignment's route on an accepted panel, by the original's own check and spelling.
+fn spell(
+    image: &[u8],
+    letters: &[u8],
+    words: &[u64],
+    slot: u64,
+    from: u64,
+    to: u64,
+    out: &mut [u64],
+) -> Vec<u64> {
+    match letters_refusal(image, letters) {
+        0 if rules::well_formed(words) => {}
+        0 => return vec![22, 0],
+        number => return vec![number, 0],
+    }
+    let panel = lettered(image, letters);
+    if let Err((number, place)) = panel.check(words).expect("the check") {
+        assert!(number <= 31, "no switch is refused for its DNA where 39 and 40 pass");
+        return vec![number, place];
+    }
+    let number = rules::crop(words, slot, from, to, out.len());
+    if slot < words[1] {
+        let spelled = panel.spell(words, slot as usize, from, to).expect("the spelling");
+        assert_eq!(spelled.is_none(), number == 41, "41 is the original's invalid crop");
+        if number == 0 {
+            let spelled = spelled.unwrap_or_default();
+            out.iter_mut().zip(&spelled).for_each(|(o, b)| *o = u64::from(*b));
+            return vec![0, 0, spelled.len() as u64];
+        }
+    }
+    vec![number, 0]
+}
+
+/// Whether the original takes an assignment though 39 or 40 refuses its panel's letters: it looks at
+/// the ports of its switches alone, and takes small letters and codes besides A, C, G and T. None
+/// where the assignment is refused by other letters too.
+pub fn taken_by_original(image: &[u8], letters: &[u8], words: &[u64]) -> Option<bool> {
+    if !rules::well_formed(words) {
+        return None;
+    }
+    let normal = open(image).check(words).expect("the check").ok()?;
+    let found = lettered(image, letters).check(words).expect("the check");
+    if rules::letters(image, letters) == 40 {
+        let wrong = rules::switch_wrong(image, letters, &normal);
+        let due = if wrong { Err((40, 0)) } else { Ok(normal) };
+        assert_eq!(found, due, "the original's test is of the switches' ports");
+    }
+    Some(found.is_ok())
+}
+
 fn answer(image: &[u8], call: &Call, rooms: &mut [Vec<u64>]) -> Vec<u64> {
     let number = match call {
         Call::Bound { counts, background } => rules::bound(counts, f64::from_bits(*background)),
@@ -215,6 +283,10 @@ fn answer(image: &[u8], call: &Call, rooms: &mut [Vec<u64>]) -> Vec<u64> {
             }
         }
         Call::Plain { .. } => unreachable!("its walk may be out of reach"),
+        Call::Letters { letters } => vec![letters_refusal(image, letters), 0],
+        Call::Spell { letters, words, slot, from, to, .. } => {
+            spell(image, letters, words, *slot, *from, *to, &mut rooms[0])
+        }
     }
 }
 
@@ -389,7 +461,7 @@ pub fn text(image: &[u8], call: &Call) -> String {
     }
     let r = &found.reply[2..];
     match call {
-        Call::Panel => "accepted\n".into(),
+        Call::Panel | Call::Letters { .. } => "accepted\n".into(),
         Call::Port { .. } if r[0] == 0 => "no port\n".into(),
         Call::Port { .. } => {
             let letters: Vec<u8> = r[2..].iter().flat_map(|w| w.to_le_bytes()).filter(|b| *b != 0).collect();
@@ -414,5 +486,9 @@ pub fn text(image: &[u8], call: &Call) -> String {
         Call::Search { .. } => spaced(&found.reply) + "\n",
         Call::Bound { .. } if r[0] == 0 => "no bound\n".into(),
         Call::Bound { .. } => format!("bound {:?}\n", f64::from_bits(r[1])),
+        Call::Spell { .. } => {
+            let letters = found.rooms[0][..r[0] as usize].iter().map(|b| char::from(*b as u8));
+            format!("spelled {}\n", letters.collect::<String>())
+        }
     }
 }

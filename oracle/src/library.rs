@@ -1,7 +1,7 @@
 //! The exported calls: their C layouts, the archive's own where its features are on,
 //! and one way to make a call and take down everything that it left.
 use crate::{
-    calls::{filled, Call, Kind, Outcome},
+    calls::{byte_filler, filled, Call, Kind, Outcome},
     rules::BudgetWords,
 };
 
@@ -99,6 +99,14 @@ pub struct PlainReply {
     pub words: u64,
 }
 
+#[repr(C)]
+#[derive(Clone, Copy, Default)]
+pub struct SpellReply {
+    pub refusal: u64,
+    pub place: u64,
+    pub letters: u64,
+}
+
 pub type CheckPanel = unsafe extern "C" fn(*const u8, usize) -> PanelReply;
 pub type PortAtCut = unsafe extern "C" fn(*const u8, usize, u64, u64, bool) -> PortReply;
 pub type HubBucket = unsafe extern "C" fn(*const u8, usize, *const u8, usize) -> BucketReply;
@@ -132,6 +140,20 @@ pub type Search = unsafe extern "C" fn(
 
 pub type LowerBound = unsafe extern "C" fn(*const u64, usize, f64) -> BoundReply;
 pub type PlainList = unsafe extern "C" fn(*const u8, usize, u64, *mut u64, usize) -> PlainReply;
+pub type CheckLetters = unsafe extern "C" fn(*const u8, usize, *const u8, usize) -> PanelReply;
+pub type Spell = unsafe extern "C" fn(
+    *const u8,
+    usize,
+    *const u8,
+    usize,
+    *const u64,
+    usize,
+    u64,
+    u64,
+    u64,
+    *mut u8,
+    usize,
+) -> SpellReply;
 
 /// The calls to compare; one that is not there yet is `None`.
 #[derive(Clone, Copy, Default)]
@@ -144,6 +166,8 @@ pub struct Calls {
     pub search: Option<Search>,
     pub bound: Option<LowerBound>,
     pub plain: Option<PlainList>,
+    pub letters: Option<CheckLetters>,
+    pub spell: Option<Spell>,
 }
 
 /// Declares one exported call and puts it into the table, where its feature is on.
@@ -180,6 +204,11 @@ pub fn linked() -> Calls {
     linked!(calls, "bound", bound, panel_routes_lower_bound, (*const u64, usize, f64) -> BoundReply);
     linked!(calls, "plain", plain, panel_routes_plain_list,
         (*const u8, usize, u64, *mut u64, usize) -> PlainReply);
+    linked!(calls, "letters", letters, panel_routes_check_letters,
+        (*const u8, usize, *const u8, usize) -> PanelReply);
+    linked!(calls, "spell", spell, panel_routes_spell,
+        (*const u8, usize, *const u8, usize, *const u64, usize, u64, u64, u64, *mut u8, usize)
+        -> SpellReply);
     calls
 }
 
@@ -207,6 +236,8 @@ impl Calls {
             Kind::Search => self.search.is_some(),
             Kind::Bound => self.bound.is_some(),
             Kind::Plain => self.plain.is_some(),
+            Kind::Letters => self.letters.is_some(),
+            Kind::Spell => self.spell.is_some(),
         }
     }
 
@@ -293,6 +324,33 @@ impl Calls {
                 Call::Plain { from, out } => {
                     let r = self.plain.unwrap()(p, n, *from, rooms[0].as_mut_ptr(), *out);
                     vec![r.refusal, r.place, r.written, r.words]
+                }
+                Call::Letters { letters } => {
+                    let own = letters.clone();
+                    let r = self.letters.unwrap()(p, n, own.as_ptr(), own.len());
+                    inputs_kept &= own == *letters;
+                    vec![r.refusal, r.place]
+                }
+                Call::Spell { letters, words, slot, from, to, out } => {
+                    let (own, given) = (letters.clone(), words.clone());
+                    let mut bytes: Vec<u8> = (0..*out + GUARD).map(byte_filler).collect();
+                    let r = self.spell.unwrap()(
+                        p,
+                        n,
+                        own.as_ptr(),
+                        own.len(),
+                        given.as_ptr(),
+                        given.len(),
+                        *slot,
+                        *from,
+                        *to,
+                        bytes.as_mut_ptr(),
+                        *out,
+                    );
+                    inputs_kept &= own == *letters && given == *words;
+                    let written = (0..bytes.len()).filter(|i| bytes[*i] != byte_filler(*i));
+                    written.for_each(|i| rooms[0][i] = u64::from(bytes[i]));
+                    vec![r.refusal, r.place, r.letters]
                 }
             }
         };

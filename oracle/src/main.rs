@@ -2,7 +2,7 @@
 use oracle::{
     calls::{Call, Kind, KINDS},
     compare::{self, Run},
-    examples, judge, large, outside, raised, record, rules, sample,
+    crops, examples, judge, large, outside, raised, record, rules, sample,
 };
 use std::{
     fs,
@@ -86,6 +86,13 @@ fn main() {
         ["plain", image, from, out] => {
             show(image, Call::Plain { from: number(from), out: number(out) as usize })
         }
+        ["letters", image, letters] => show(image, Call::Letters { letters: letters.into() }),
+        ["spell", image, letters, slot, from, to, ref words @ ..] => {
+            let [slot, from, to] = [slot, from, to].map(number);
+            let words = words.iter().map(|w| number(w)).collect();
+            let out = to.saturating_sub(from) as usize;
+            show(image, Call::Spell { letters: letters.into(), words, slot, from, to, out: out.min(1 << 30) })
+        }
         ["large", ports] => large::check(run.seed, number(ports), &run.subject()),
         ["image"] => {
             let job = input();
@@ -120,6 +127,7 @@ fn main() {
         }
         ["discarded"] => compare::discarded(&run).is_ok(),
         ["raised"] => raised::pairs(&run).is_ok(),
+        ["crops"] => crops::hold(&run).is_ok(),
         ["outside"] => {
             outside::show();
             true

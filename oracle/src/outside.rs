@@ -100,6 +100,32 @@ pub fn show() {
     (0..n).for_each(|i| words.extend([0, i, if i + 1 == n { 20_000 } else { i + 1 }, 0]));
     let name = format!("an assignment of {} words", words.len());
     say(&name, "refused 22 0", move || Panel::open(&long, None)?.check(&words));
+    let native = (vec![0, 1, 1, 0, 0, 10, 0], 10);
+    let mosaic = (vec![0, 1, 3, 0, 0, 4, 0, 1, 6, 8, 0, 0, 7, 10, 0], 9);
+    for (name, letters, (words, length)) in [
+        ("E's letters, lane 0's fourth a C: the native assignment", "TTTCCTGGTACCCCCACGGC", &native),
+        ("the same: E's mosaic", "TTTCCTGGTACCCCCACGGC", &mosaic),
+        ("E's letters, lane 0's first an N: the mosaic", "NTTACTGGTACCCCCACGGC", &mosaic),
+        ("E's letters, all small: the mosaic", "tttactggtacccccacggc", &mosaic),
+        ("E's letters without the last: the mosaic", "TTTACTGGTACCCCCACGG", &mosaic),
+        ("E's letters and one more: the mosaic", "TTTACTGGTACCCCCACGGCA", &mosaic),
+        ("E's letters without the last two: the mosaic", "TTTACTGGTACCCCCACG", &mosaic),
+    ] {
+        let (image, words) = (e.image(), words.clone());
+        let ours = format!("refused {} 0", rules::letters(&image, letters.as_bytes()));
+        say(name, &ours, move || {
+            let mut panel = Panel::open(&image, None)?;
+            panel.lend(letters.as_bytes());
+            Ok(match panel.check(&words)? {
+                Err((39, _)) => "invalid source DNA".into(),
+                Err((number, _)) => format!("switch DNA provenance mismatch ({number})"),
+                Ok(_) => {
+                    let spelled = panel.spell(&words, 0, 0, *length)?.unwrap_or_default();
+                    format!("legal, spells {}", String::from_utf8_lossy(&spelled))
+                }
+            })
+        });
+    }
     for (count, background) in
         [(1 << 53, 1.0), (u64::MAX, 1.0), (3, 0.0), (3, -1.0), (3, f64::INFINITY), (3, f64::NAN)]
     {

@@ -17,7 +17,7 @@ fn refuse<T>(number: u64, place: u64) -> Result<T, Refusal> {
     Err(Refusal { number, place })
 }
 
-fn need(number: u64, holds: bool) -> Result<(), Refusal> {
+pub fn need(number: u64, holds: bool) -> Result<(), Refusal> {
     if holds {
         Ok(())
     } else {
@@ -44,7 +44,7 @@ pub struct Lane {
 /// An accepted panel.
 #[derive(Clone, Debug)]
 pub struct Panel {
-    k: u64,
+    pub k: u64,
     pub lanes: Vec<Lane>,
     pub families: Vec<Range<usize>>,
     paths: Vec<usize>,
@@ -252,7 +252,7 @@ impl Segment {
 const MOST_WORDS: usize = 65_536;
 
 /// Where each route's segments begin in the words, or 22.
-fn route_starts(words: &[u64]) -> Result<Vec<usize>, Refusal> {
+pub fn route_starts(words: &[u64]) -> Result<Vec<usize>, Refusal> {
     need(22, (2..=MOST_WORDS).contains(&words.len()))?;
     // Each route takes a word, so a count past the words left has one missing.
     need(22, words[1] <= (words.len() - 2) as u64)?;

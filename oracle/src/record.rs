@@ -28,7 +28,7 @@ pub fn arguments(call: &Call) -> Vec<u64> {
     match call {
         Call::Panel => vec![],
         Call::Port { lane, cut, reverse } => vec![*lane, *cut, u64::from(*reverse)],
-        Call::Bucket { word } => [vec![word.len() as u64], as_words(word)].concat(),
+        Call::Bucket { word } => counted(word),
         Call::Check { words, out } => [vec![*out as u64, words.len() as u64], words.clone()].concat(),
         Call::List { budget, from, frames, slot, out } => {
             [&budget[..], &[*from, *frames as u64, *slot as u64, *out as u64]].concat()
@@ -39,7 +39,26 @@ pub fn arguments(call: &Call) -> Vec<u64> {
         }
         Call::Bound { counts, background } => [&[*background, counts.len() as u64], &counts[..]].concat(),
         Call::Plain { from, out } => vec![*from, *out as u64],
+        Call::Letters { letters } => counted(letters),
+        Call::Spell { letters, words, slot, from, to, out } => {
+            [counted(letters), vec![*out as u64, *slot, *from, *to, words.len() as u64], words.clone()]
+                .concat()
+        }
     }
+}
+
+/// How many bytes, and the bytes padded to words.
+fn counted(bytes: &[u8]) -> Vec<u64> {
+    [vec![bytes.len() as u64], as_words(bytes)].concat()
+}
+
+/// The bytes at the front of words that `counted` made, and the words behind them.
+fn uncounted(words: &[u64]) -> Option<(Vec<u8>, &[u64])> {
+    let (n, rest) = words.split_first()?;
+    let n = usize::try_from(*n).ok()?;
+    let own = rest.get(..n.div_ceil(8))?;
+    let bytes = own.iter().flat_map(|w| w.to_le_bytes()).take(n).collect();
+    Some((bytes, &rest[own.len()..]))
 }
 
 fn call(kind: u64, words: &[u64]) -> Option<Call> {
@@ -73,6 +92,21 @@ fn call(kind: u64, words: &[u64]) -> Option<Call> {
             Call::Bound { counts: rest.to_vec(), background: *background }
         }
         (9, [from, out]) => Call::Plain { from: *from, out: *out as usize },
+        (10, words) => match uncounted(words)? {
+            (letters, []) => Call::Letters { letters },
+            _ => return None,
+        },
+        (11, words) => match uncounted(words)? {
+            (letters, [out, slot, from, to, n, words @ ..]) if words.len() as u64 == *n => Call::Spell {
+                letters,
+                words: words.to_vec(),
+                slot: *slot,
+                from: *from,
+                to: *to,
+                out: *out as usize,
+            },
+            _ => return None,
+        },
         _ => return None,
     })
 }
@@ -84,7 +118,12 @@ pub fn expected(image: &[u8], call: &Call, o: &Outcome) -> Vec<u64> {
         return words;
     }
     match call {
-        Call::Panel | Call::Port { .. } | Call::Bucket { .. } | Call::Bound { .. } => {}
+        Call::Panel | Call::Port { .. } | Call::Bucket { .. } | Call::Bound { .. } | Call::Letters { .. } => {
+        }
+        Call::Spell { .. } => {
+            let letters: Vec<u8> = o.rooms[0][..o.reply[2] as usize].iter().map(|b| *b as u8).collect();
+            words.extend(as_words(&letters));
+        }
         Call::Check { .. } => words.extend(&o.rooms[0][..o.reply[2] as usize]),
         Call::Plain { .. } => words.extend(&o.rooms[0][..o.reply[3] as usize]),
         Call::List { budget, .. } => {
@@ -159,7 +198,7 @@ pub fn answer(request: &Request) -> Vec<u64> {
 }
 
 pub fn text_words(text: &str) -> Vec<u64> {
-    [vec![text.len() as u64], as_words(text.as_bytes())].concat()
+    counted(text.as_bytes())
 }
 
 /// Answers every request of a stream.

@@ -1,5 +1,5 @@
 //! What the original has no numbers for, read from documents 01 and 02 as plainly as possible:
-//! refusals 1 to 13, 16, 21, 22 and 43, and the rooms. Whole numbers are u128, so that no sum
+//! refusals 1 to 13, 16, 21, 22, 37, 39 to 41 and 43, and the rooms. Whole numbers are u128, so that no sum
 //! of u64 words can wrap; nothing here is shared with the stand-in.
 use std::collections::HashSet;
 
@@ -205,6 +205,79 @@ pub fn well_formed(words: &[u64]) -> bool {
         Some(())
     };
     words.len() <= 65_536 && read().is_some() && at == words.len()
+}
+
+/// The segments of each route of well-formed words.
+fn routes(words: &[u64]) -> Vec<Vec<[u64; 4]>> {
+    let mut at = 2;
+    let mut route = || {
+        let end = at + 1 + 4 * words[at] as usize;
+        let own: Vec<[u64; 4]> = words[at + 1..end].chunks(4).map(|s| [s[0], s[1], s[2], s[3]]).collect();
+        at = end;
+        own
+    };
+    (0..words[1]).map(|_| route()).collect()
+}
+
+/// Refusals 41 and 37 of a legal assignment, or 0.
+pub fn crop(words: &[u64], slot: u64, from: u64, to: u64, room: usize) -> u64 {
+    let routes = routes(words);
+    let Some(route) = usize::try_from(slot).ok().and_then(|s| routes.get(s)) else { return 41 };
+    let length: u128 = route.iter().map(|s| u128::from(s[2]) - u128::from(s[1])).sum();
+    if to <= from || u128::from(to) > length {
+        41
+    } else if u128::from(to) - u128::from(from) > room as u128 {
+        37
+    } else {
+        0
+    }
+}
+
+impl Parts<'_> {
+    /// Whether a record's word is another than its k letters, turned where it is reverse.
+    fn word_wrong(&self, r: &[u8], letters: &[u8]) -> bool {
+        let before = self.lanes.iter().take(self.source(r) as usize).map(|lane| lane[0]);
+        let first = (before.sum::<u64>() + self.anchor(r)) as usize;
+        let own = &letters[first..first + self.k];
+        let pairs = [(b'A', b'T'), (b'C', b'G'), (b'G', b'C'), (b'T', b'A')];
+        let other = |b: u8| pairs.iter().find(|(x, _)| *x == b).map(|(_, y)| *y);
+        (0..self.k).any(|i| {
+            let reads = if self.reverse(r) == 1 { other(own[self.k - 1 - i]) } else { Some(own[i]) };
+            reads != Some(r[i])
+        })
+    }
+}
+
+/// Refusals 39 and 40 of an accepted panel, or 0.
+pub fn letters(image: &[u8], letters: &[u8]) -> u64 {
+    let Ok(parts) = cut_up(image) else { unreachable!("an accepted panel") };
+    let total: u128 = parts.lanes.iter().map(|lane| u128::from(lane[0])).sum();
+    if total != letters.len() as u128 || letters.iter().any(|b| !b"ACGT".contains(b)) {
+        39
+    } else {
+        40 * u64::from(parts.own.iter().chain(&parts.global).any(|r| parts.word_wrong(r, letters)))
+    }
+}
+
+/// Whether an accepted panel has a port of this orientation.
+pub fn is_any_port(image: &[u8], reverse: u8) -> bool {
+    cut_up(image).is_ok_and(|parts| parts.own.iter().any(|r| parts.reverse(r) == reverse))
+}
+
+/// Whether a switch of a legal assignment in normal form goes by a port that 40 is given for.
+pub fn switch_wrong(image: &[u8], letters: &[u8], normal: &[u64]) -> bool {
+    let Ok(parts) = cut_up(image) else { unreachable!("an accepted panel") };
+    let wrong = |lane: u64, cut: u64, reverse: u64| {
+        let half = parts.k as u64 / 2;
+        let shift = if reverse == 1 { parts.k as u64 - half } else { half };
+        parts.own.iter().any(|r| {
+            let place = (parts.source(r), parts.anchor(r) + shift, u64::from(parts.reverse(r)));
+            place == (lane, cut, reverse) && parts.word_wrong(r, letters)
+        })
+    };
+    let leaves = |s: &[u64; 4]| wrong(s[0], if s[3] == 1 { s[1] } else { s[2] }, s[3]);
+    let enters = |s: &[u64; 4]| wrong(s[0], if s[3] == 1 { s[2] } else { s[1] }, s[3]);
+    routes(normal).iter().any(|route| route.windows(2).any(|w| leaves(&w[0]) || enters(&w[1])))
 }
 
 /// A job of the walk program, or 16.

@@ -16,6 +16,7 @@ use std::{
 
 /// A replaying program needs no longer room than this for any record.
 pub const LONGEST_ROOM: usize = 4096;
+const MOST_ARGUMENTS: usize = 32;
 
 struct Chosen {
     image: Vec<u8>,
@@ -44,7 +45,7 @@ fn from_random(seed: u64, kind: Kind, share: u64, inputs: u64) -> Vec<Chosen> {
         .map(|i| gen::input(seed, kind, i, Size::Small))
         .filter(|i| i.call.rooms().iter().all(|r| *r <= LONGEST_ROOM))
         .map(|i| chosen(i.image(), i.call))
-        .filter(|c| c.bytes.len() <= 1000)
+        .filter(|c| c.bytes.len() <= 1000 && record::arguments(&c.call).len() <= MOST_ARGUMENTS)
         .collect();
     all.sort_by_key(|c| c.bytes.len());
     let mut have: BTreeMap<String, u64> = BTreeMap::new();
@@ -346,6 +347,99 @@ fn plain_lists() -> Vec<(Spec, Call)> {
     all
 }
 
+const LETTERS_E: &[u8] = b"TTTACTGGTACCCCCACGGC";
+
+/// Panel E's letters, with one of them another byte.
+fn letters_e(at: usize, letter: u8) -> Vec<u8> {
+    let mut letters = LETTERS_E.to_vec();
+    letters[at] = letter;
+    letters
+}
+
+/// Letters of panel E by the rows of 02's item 7; of E with a reverse port, its word turned and not,
+/// and of E without ports.
+fn letters_on_e() -> Vec<(Spec, Call)> {
+    let e = Spec::panel_e();
+    let with = |word: &str| {
+        let mut spec = e.clone();
+        spec.ports.push(PortSpec { word: word.into(), source: 0, anchor: 3, reverse: true });
+        spec
+    };
+    let mut two = letters_e(3, b'C');
+    two[19] = b'N';
+    let own = [
+        LETTERS_E.to_vec(),
+        letters_e(0, b'A'),
+        LETTERS_E[..19].to_vec(),
+        [LETTERS_E, b"A"].concat(),
+        vec![],
+        letters_e(0, b'N'),
+        letters_e(0, b't'),
+        two,
+        letters_e(3, b'C'),
+        letters_e(18, b'T'),
+    ];
+    let mut all: Vec<(Spec, Vec<u8>)> = own.into_iter().map(|l| (e.clone(), l)).collect();
+    all.push((with("GT"), LETTERS_E.into()));
+    all.push((with("GT"), letters_e(4, b'T')));
+    all.push((with("AC"), LETTERS_E.into()));
+    all.push((Spec { ports: vec![], ..e.clone() }, letters_e(3, b'C')));
+    all.into_iter().map(|(spec, letters)| (spec, Call::Letters { letters })).collect()
+}
+
+/// Crops of panel E's mosaic, each refusal of the check with its first assignment in `checks_e`, and
+/// the order of the refusals.
+fn spellings_on_e() -> Vec<Call> {
+    const MAX: u64 = u64::MAX;
+    const MOSAIC: [u64; 15] = [0, 1, 3, 0, 0, 4, 0, 1, 6, 8, 0, 0, 7, 10, 0];
+    let call = |letters: &[u8], words: &[u64], slot, from, to, out| Call::Spell {
+        letters: letters.into(),
+        words: words.into(),
+        slot,
+        from,
+        to,
+        out,
+    };
+    let crops = [
+        (0, 0, 9, 9),
+        (0, 0, 9, 12),
+        (0, 3, 7, 4),
+        (0, 3, 4, 1),
+        (0, 8, 9, 3),
+        (0, 0, 9, 8),
+        (0, 3, 4, 0),
+        (1, 0, 9, 9),
+        (MAX, 0, 9, 9),
+        (0, 4, 4, 9),
+        (0, 5, 4, 9),
+        (0, 0, 10, 9),
+        (0, 9, 10, 1),
+        (0, 0, MAX, 9),
+        (0, MAX, MAX, 9),
+        (0, MAX, 0, 9),
+    ];
+    let mut all: Vec<Call> =
+        crops.map(|(slot, from, to, out)| call(LETTERS_E, &MOSAIC, slot, from, to, out)).into();
+    let image = Spec::panel_e().image();
+    let mut seen = BTreeSet::new();
+    for check in checks_e() {
+        let number = judge::outcome(&image, &check).reply[0];
+        let Call::Check { words, .. } = check else { unreachable!() };
+        if number != 21 && seen.insert(number) {
+            all.push(call(LETTERS_E, &words, 0, 0, 9, 9));
+        }
+    }
+    // As given, in four pieces; 39 before 40, 40 before 22, 22 and 27 before 41.
+    let pieces = [0, 1, 4, 0, 0, 4, 0, 1, 6, 7, 0, 1, 7, 8, 0, 0, 7, 10, 0];
+    all.push(call(LETTERS_E, &pieces, 0, 2, 7, 5));
+    all.push(call(&letters_e(0, b'a'), &MOSAIC, 0, 0, 9, 9));
+    all.push(call(&letters_e(3, b'N'), &MOSAIC, 0, 0, 9, 9));
+    all.push(call(&letters_e(3, b'C'), &[], 0, 0, 9, 9));
+    all.push(call(LETTERS_E, &[], 1, 9, 0, 0));
+    all.push(call(LETTERS_E, &[0, 1, 1, 0, 0, 9, 0], 1, 9, 0, 0));
+    all
+}
+
 fn sample(seed: u64, kind: Kind) -> Vec<Chosen> {
     let mut all = Vec::new();
     let e = Spec::panel_e();
@@ -388,6 +482,14 @@ fn sample(seed: u64, kind: Kind) -> Vec<Chosen> {
         Kind::Plain => {
             all.extend(plain_lists().into_iter().map(|(spec, call)| chosen(spec.image(), call)));
             all.extend(from_random(seed, kind, 2, 8000));
+        }
+        Kind::Letters => {
+            all.extend(letters_on_e().into_iter().map(|(spec, call)| chosen(spec.image(), call)));
+            all.extend(from_random(seed, kind, 1, 8000));
+        }
+        Kind::Spell => {
+            all.extend(spellings_on_e().into_iter().map(|call| chosen(e.image(), call)));
+            all.extend(from_random(seed, kind, 1, 20_000));
         }
     }
     all

@@ -320,6 +320,40 @@ fn calls(call: &Call) -> Vec<Call> {
                 });
             }
         }
+        Call::Letters { letters } => {
+            for other in thinned(letters).into_iter().chain(plainer(letters)) {
+                with(&|c| *c = Call::Letters { letters: other.clone() });
+            }
+        }
+        Call::Spell { letters, words, slot, from, to, out } => {
+            let mut put = |letters: &[u8], words: &[u64], [slot, from, to]: [u64; 3], out: usize| {
+                let (letters, words) = (letters.to_vec(), words.to_vec());
+                let call = Call::Spell { letters, words, slot, from, to, out };
+                with(&|c| c.clone_from(&call));
+            };
+            let crop = [*slot, *from, *to];
+            segments_dropped(words).iter().for_each(|w| put(letters, w, crop, *out));
+            if words.len() < 300 {
+                thinned(words).iter().for_each(|w| put(letters, w, crop, *out));
+                for i in 0..words.len() {
+                    for x in below(words[i]) {
+                        let mut words = words.clone();
+                        words[i] = x;
+                        put(letters, &words, crop, *out);
+                    }
+                }
+            }
+            for (i, &old) in crop.iter().enumerate() {
+                for x in below(old) {
+                    let mut crop = crop;
+                    crop[i] = x;
+                    put(letters, words, crop, *out);
+                    put(letters, words, crop, crop[2].saturating_sub(crop[1]).min(*out as u64) as usize);
+                }
+            }
+            lengths(*out).into_iter().for_each(|x| put(letters, words, crop, x));
+            plainer(letters).iter().for_each(|l| put(l, words, crop, *out));
+        }
         Call::Bound { counts, background } => {
             for fewer in thinned(counts) {
                 with(&|c| {
@@ -352,6 +386,72 @@ fn calls(call: &Call) -> Vec<Call> {
     out
 }
 
+/// Letters with one of the first made an A.
+fn plainer(letters: &[u8]) -> Vec<Vec<u8>> {
+    let mut out = Vec::new();
+    for i in (0..letters.len().min(80)).filter(|i| letters[*i] != b'A') {
+        out.push(letters.to_vec());
+        out.last_mut().unwrap()[i] = b'A';
+    }
+    out
+}
+
+/// Well-formed words with every segment changed.
+fn segments_changed(words: &[u64], change: impl Fn(&mut [u64])) -> Vec<u64> {
+    let mut out = words.to_vec();
+    if crate::rules::well_formed(words) {
+        let mut at = 2;
+        for _ in 0..words[1] {
+            let n = words[at] as usize;
+            out[at + 1..at + 1 + 4 * n].chunks_mut(4).for_each(&change);
+            at += 1 + 4 * n;
+        }
+    }
+    out
+}
+
+/// A panel without a lane, or with the end of one cut off, and the letters and segments in step.
+fn lanes_with_letters(input: &Input) -> Vec<Input> {
+    let (Call::Letters { letters } | Call::Spell { letters, .. }) = &input.call else { return vec![] };
+    let mut out = Vec::new();
+    let mut put = |spec: Spec, letters: Vec<u8>, change: &dyn Fn(&mut [u64])| {
+        let mut i = Input { spec, ..input.clone() };
+        match &mut i.call {
+            Call::Letters { letters: old } => *old = letters,
+            Call::Spell { letters: old, words, .. } => {
+                *old = letters;
+                *words = segments_changed(words, change);
+            }
+            _ => unreachable!(),
+        }
+        out.push(i);
+    };
+    let mut first = 0;
+    for (lane, &(length, _)) in (0u64..).zip(&input.spec.lanes) {
+        if length > (letters.len() - first) as u64 {
+            break;
+        }
+        if input.spec.lanes.len() > 1 {
+            let rest = without(letters, first, length as usize);
+            put(without_lane(&input.spec, lane), rest, &|s| s[0] -= u64::from(s[0] > lane));
+        }
+        let end = first + length as usize;
+        for d in [length / 2, length / 8, 1].into_iter().filter(|d| *d > 0 && *d < length) {
+            let mut spec = input.spec.clone();
+            let left = length - d;
+            spec.lanes[lane as usize].0 = left;
+            spec.ports.retain(|p| p.source != lane || p.anchor.saturating_add(spec.k) <= left);
+            put(spec, without(letters, end - d as usize, d as usize), &|s| {
+                if s[0] == lane && s[2] == length {
+                    s[2] = left;
+                }
+            });
+        }
+        first = end;
+    }
+    out
+}
+
 /// Assignments with a stretch of segments left out and their count put right.
 fn segments_dropped(words: &[u64]) -> Vec<Vec<u64>> {
     let mut out = Vec::new();
@@ -379,7 +479,7 @@ fn segments_dropped(words: &[u64]) -> Vec<Vec<u64>> {
 /// Changes that keep a panel and its call in step: k with the word asked for, anchors with
 /// the cut asked for.
 fn both(input: &Input) -> Vec<Input> {
-    let mut out = Vec::new();
+    let mut out = lanes_with_letters(input);
     if let Call::Bucket { word } = &input.call {
         for k in below(input.spec.k).into_iter().filter(|k| *k > 0) {
             let mut i = input.clone();

@@ -3,6 +3,7 @@ use crate::{
     engine,
     library::*,
     plain::{self, Budget, Panel, Refusal},
+    spelling,
 };
 use std::slice::{from_raw_parts as read, from_raw_parts_mut as lend};
 
@@ -16,6 +17,8 @@ pub fn calls() -> Calls {
         search: Some(search),
         bound: Some(lower_bound),
         plain: Some(plain_list),
+        letters: Some(check_letters),
+        spell: Some(spell),
     }
 }
 
@@ -174,5 +177,39 @@ unsafe extern "C" fn plain_list(
     match panel.and_then(|p| engine::list(&p, from, lend(out, out_len))) {
         Err(r) => refused!(PlainReply, r),
         Ok((written, words)) => PlainReply { written, words, ..Default::default() },
+    }
+}
+
+unsafe extern "C" fn check_letters(
+    image: *const u8,
+    len: usize,
+    letters: *const u8,
+    letters_len: usize,
+) -> PanelReply {
+    let panel = Panel::parse(read(image, len));
+    match panel.and_then(|p| spelling::lanes(&p, read(letters, letters_len)).map(|_| ())) {
+        Err(r) => refused!(PanelReply, r),
+        Ok(()) => PanelReply::default(),
+    }
+}
+
+unsafe extern "C" fn spell(
+    image: *const u8,
+    len: usize,
+    letters: *const u8,
+    letters_len: usize,
+    words: *const u64,
+    words_len: usize,
+    slot: u64,
+    from: u64,
+    to: u64,
+    out: *mut u8,
+    out_len: usize,
+) -> SpellReply {
+    let (letters, words) = (read(letters, letters_len), read(words, words_len));
+    let panel = Panel::parse(read(image, len));
+    match panel.and_then(|p| spelling::spell(&p, letters, words, slot, from, to, lend(out, out_len))) {
+        Err(r) => refused!(SpellReply, r),
+        Ok(letters) => SpellReply { letters, ..Default::default() },
     }
 }

@@ -5,12 +5,12 @@ use crate::{
     genome_inference::{
         checksum,
         panel_routes::{
-            evaluate, search, storage, Assignment, Evaluator, Family, Graph, Lane, Ports, Route, Scores,
-            Seal, SearchBudget, Segment, MODEL, VERSION,
+            evaluate, graph::Sources, search, storage, Assignment, Evaluator, Family, Graph, Lane, Ports,
+            Route, Scores, Seal, SearchBudget, Segment, MODEL, VERSION,
         },
         take_written, PanelIdentity,
     },
-    sequence_index,
+    graph, sequence_index,
     syng::SyngIndex,
 };
 use serde_json::Value;
@@ -141,6 +141,48 @@ impl Panel {
         Ok(Self { graph, syng: SyngIndex::default(), root, contradicted })
     }
 
+    /// The lanes' letters, lane after lane, for what is asked until another panel opens: the
+    /// original's DNA test reads them. Where there are too few, the last lanes lack them.
+    pub fn lend(&mut self, letters: &[u8]) {
+        let mut rest = letters;
+        let lanes = self.graph.lanes.iter().map(|lane| {
+            let (own, later) = rest.split_at(rest.len().min(lane.length as usize));
+            rest = later;
+            own.to_vec()
+        });
+        sequence_index::lend(lanes.collect());
+        self.contradicted = false;
+    }
+
+    /// The test that `validate_assignment` makes of a switch's ports, made of every lane's ports.
+    pub fn words_stand(&self) -> io::Result<bool> {
+        let (k, sources) = (self.graph.k, Sources::of_ports(&self.graph.lanes));
+        let mut ports = Ports::open(&self.root, &self.graph)?;
+        for lane in &self.graph.lanes {
+            let mut file = ports.source_file(&self.graph, lane.id)?;
+            for i in 0..lane.port_count {
+                let p = storage::port_at(&mut file, k as usize, i)?;
+                let mut dna = sources.fetch(p.source, p.anchor, p.anchor + k)?;
+                if p.reverse {
+                    dna = graph::reverse_complement(&dna);
+                }
+                if dna != p.word {
+                    return Ok(false);
+                }
+            }
+        }
+        Ok(true)
+    }
+
+    /// A crop of a route as given, by the letters lent; none where the original calls it invalid.
+    pub fn spell(&self, words: &[u64], slot: usize, from: u64, to: u64) -> io::Result<Option<Vec<u8>>> {
+        let route = &self.assignment(words)?.routes[slot];
+        match Sources::of_ports(&self.graph.lanes).spell(route, from, to) {
+            Err(error) if error.to_string() == "invalid route crop" => Ok(None),
+            spelled => spelled.map(Some),
+        }
+    }
+
     pub fn port_at_cut(&self, lane: usize, cut: u64, reverse: bool) -> io::Result<Option<(u64, Vec<u8>)>> {
         let port = Ports::open(&self.root, &self.graph)?.at_cut(&self.graph, lane, cut, reverse)?;
         Ok(port.map(|p| (p.anchor, p.word)))
@@ -152,7 +194,8 @@ impl Panel {
         storage::bucket(&mut ports.global, k, self.graph.port_count, word)
     }
 
-    /// The normal form's words, or the refusal with its route. Words are well formed.
+    /// The normal form's words, or the refusal with its route: 39 or 40 where it is the letters lent
+    /// that a switch is refused for. Words are well formed.
     pub fn check(&self, words: &[u64]) -> io::Result<Result<Vec<u64>, (u64, u64)>> {
         let inner = evaluate::Evaluator::unscored(&self.root, &self.graph, &self.syng)?;
         let mut e = Evaluator::new(inner, Scores::Free, false);
@@ -288,7 +331,7 @@ fn store(root: &Path, path: String, bytes: &[u8]) -> io::Result<Seal> {
     Ok(Seal { path, bytes: bytes.len() as u64, hash })
 }
 
-/// 01's number for the original's message.
+/// The documents' number for the original's message.
 fn refusal(error: &io::Error) -> io::Result<u64> {
     let text = error.to_string();
     let number = match text.as_str() {
@@ -301,6 +344,8 @@ fn refusal(error: &io::Error) -> io::Result<u64> {
         "undeclared incoming switch" => 29,
         "switch words/oriented cuts disagree" => 30,
         "conflicting canonical source-span reuse across genome" => 31,
+        "invalid source DNA" => 39,
+        "switch DNA provenance mismatch" => 40,
         _ => return Err(io::Error::other(format!("unforeseen: {text}"))),
     };
     Ok(number)

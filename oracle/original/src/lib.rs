@@ -10,8 +10,9 @@ pub mod genome_inference;
 pub mod graph {
     use crate::sequence_index;
 
-    /// Honest on DNA that is true to the ports. On a panel whose ports contradict each
-    /// other no such DNA exists; there the answer is the word of the port just fetched.
+    /// Honest on letters that were lent and on DNA that is true to the ports. On a panel whose
+    /// ports contradict each other no such DNA exists; without letters the answer there is the
+    /// word of the port just fetched.
     pub fn reverse_complement(dna: &[u8]) -> Vec<u8> {
         sequence_index::waived_word().unwrap_or_else(|| turned(dna))
     }
@@ -28,7 +29,7 @@ pub mod graph {
     }
 }
 
-/// `crate::sequence_index`: DNA made from the ports themselves.
+/// `crate::sequence_index`: letters that were lent, or DNA made from the ports themselves.
 pub mod sequence_index {
     use crate::graph::turned;
     use std::{cell::RefCell, collections::HashMap, io};
@@ -41,6 +42,8 @@ pub mod sequence_index {
 
     #[derive(Default)]
     struct Dna {
+        /// The lanes' letters, where a request brings them.
+        lent: Option<Vec<Vec<u8>>>,
         sites: HashMap<(usize, u64), Site>,
         contradicted: bool,
         last: Option<(usize, u64)>,
@@ -56,6 +59,7 @@ pub mod sequence_index {
     pub fn set_ports(ports: impl Iterator<Item = (usize, u64, bool, Vec<u8>)>) -> bool {
         DNA.with(|dna| {
             let mut dna = dna.borrow_mut();
+            dna.lent = None;
             dna.sites.clear();
             dna.contradicted = false;
             dna.last = None;
@@ -75,6 +79,15 @@ pub mod sequence_index {
                 *if reverse { &mut site.reverse } else { &mut site.forward } = Some(word);
             }
             dna.contradicted
+        })
+    }
+
+    /// Letters of each lane, to be read in the place of the ports' own until the next panel.
+    pub fn lend(lanes: Vec<Vec<u8>>) {
+        DNA.with(|dna| {
+            let mut dna = dna.borrow_mut();
+            dna.lent = Some(lanes);
+            dna.contradicted = false;
         })
     }
 
@@ -126,9 +139,15 @@ pub mod sequence_index {
         /// Lanes are named by their numbers. The caller has cut its u64 to an i32; lanes are
         /// below 2^32, so the bits are all there.
         fn fetch_sequence(&self, name: &str, start: i32, end: i32) -> io::Result<Vec<u8>> {
-            let at = (name.parse().map_err(io::Error::other)?, u64::from(start as u32));
+            let at: (usize, u64) = (name.parse().map_err(io::Error::other)?, u64::from(start as u32));
             DNA.with(|dna| {
                 let mut dna = dna.borrow_mut();
+                if let Some(lanes) = &dna.lent {
+                    // Of letters past the end a file has none either.
+                    let letters = &lanes[at.0];
+                    let inside = |x: i32| (x as u32 as usize).min(letters.len());
+                    return Ok(letters[inside(start)..inside(end)].to_vec());
+                }
                 dna.last = Some(at);
                 dna.waived += u64::from(dna.contradicted);
                 let site = dna.sites.get(&at).ok_or_else(|| io::Error::other("no port here"))?;
