@@ -1,5 +1,5 @@
 //! The original's recorded answers (oracle/recorded), asked for through the crate.
-//! Records about rooms that the crate never lends (13, 21) are passed over.
+//! Records about rooms that the crate never lends (13, 21, 37) are passed over.
 use panel_routes::{
     lower_bound, Assignment, Frame, Job, Panel, PanelBuilder, Refusal, Scored, SearchBudget, Sheet, Status,
 };
@@ -216,6 +216,38 @@ fn plain_lists() {
             written += 1;
         }
         Ok([vec![written, words.len() as u64], words].concat())
+    });
+}
+
+/// The lanes' letters that arguments begin with, and the arguments behind them.
+fn lane_letters(arguments: &[u64]) -> (Vec<u8>, &[u64]) {
+    let n = arguments[0] as usize;
+    let (own, rest) = arguments[1..].split_at(n.div_ceil(8));
+    let mut own = letters(own);
+    own.truncate(n);
+    (own, rest)
+}
+
+#[test]
+fn letters_of_lanes() {
+    replay("letters.bin", &[], |r| {
+        let panel = Panel::new(&r.image[..])?;
+        panel.letters(lane_letters(&r.arguments).0)?;
+        Ok(vec![])
+    });
+}
+
+#[test]
+fn spellings() {
+    replay("spell.bin", &[37], |r| {
+        let (own, rest) = lane_letters(&r.arguments);
+        let slot = usize::try_from(rest[1]).unwrap_or(usize::MAX);
+        let panel = Panel::new(&r.image[..])?;
+        let lanes = panel.letters(own)?;
+        let mut spelled = lanes.spell(&Assignment::from_words(&rest[5..])?, slot, rest[2], rest[3])?;
+        let n = spelled.len();
+        spelled.resize(n.next_multiple_of(8), 0);
+        Ok([vec![n as u64], words(&spelled)].concat())
     });
 }
 
