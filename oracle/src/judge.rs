@@ -136,15 +136,21 @@ fn lay(listed: &[Vec<u64>], from: u64, out: &mut [u64]) -> (u64, u64) {
     (written, words as u64)
 }
 
-/// 39 and 40 of an accepted panel. The original tests the ports of a switch only; its test made of
-/// every port is held to 40.
-fn letters_refusal(image: &[u8], letters: &[u8]) -> u64 {
+/// An accepted panel with its lanes' letters, or 39 or 40. The original tests the ports of a switch
+/// only; its test made of every port is held to 40.
+fn worded(image: &[u8], letters: &[u8]) -> Result<Panel, u64> {
     let number = rules::letters(image, letters);
-    if number != 39 {
-        let stand = lettered(image, letters).words_stand().expect("every port's letters are there");
-        assert_eq!(number == 0, stand, "40 is the original's test of every port");
+    if number == 39 {
+        return Err(number);
     }
-    number
+    let panel = lettered(image, letters);
+    let stand = panel.words_stand().expect("every port's letters are there");
+    assert_eq!(number == 0, stand, "40 is the original's test of every port");
+    if stand {
+        Ok(panel)
+    } else {
+        Err(number)
+    }
 }
 
 /// A crop of an assignment's route on an accepted panel, by the original's own check and spelling.
@@ -157,12 +163,11 @@ fn spell(
     to: u64,
     out: &mut [u64],
 ) -> Vec<u64> {
-    match letters_refusal(image, letters) {
-        0 if rules::well_formed(words) => {}
-        0 => return vec![22, 0],
-        number => return vec![number, 0],
-    }
-    let panel = lettered(image, letters);
+    let panel = match worded(image, letters) {
+        Ok(_) if !rules::well_formed(words) => return vec![22, 0],
+        Ok(panel) => panel,
+        Err(number) => return vec![number, 0],
+    };
     if let Err((number, place)) = panel.check(words).expect("the check") {
         assert!(number <= 31, "no switch is refused for its DNA where 39 and 40 pass");
         return vec![number, place];
@@ -283,7 +288,7 @@ fn answer(image: &[u8], call: &Call, rooms: &mut [Vec<u64>]) -> Vec<u64> {
             }
         }
         Call::Plain { .. } => unreachable!("its walk may be out of reach"),
-        Call::Letters { letters } => vec![letters_refusal(image, letters), 0],
+        Call::Letters { letters } => vec![worded(image, letters).err().unwrap_or(0), 0],
         Call::Spell { letters, words, slot, from, to, .. } => {
             spell(image, letters, words, *slot, *from, *to, &mut rooms[0])
         }

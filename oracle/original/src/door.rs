@@ -1,7 +1,7 @@
 //! The judge's door to the original: an accepted panel image goes in, its answers come
 //! out as numbers. What is said here about an answer was said by the original's code.
 use crate::{
-    file::{self, MEMORY},
+    file::{self, File, MEMORY},
     genome_inference::{
         checksum,
         panel_routes::{
@@ -157,9 +157,8 @@ impl Panel {
     /// The test that `validate_assignment` makes of a switch's ports, made of every lane's ports.
     pub fn words_stand(&self) -> io::Result<bool> {
         let (k, sources) = (self.graph.k, Sources::of_ports(&self.graph.lanes));
-        let mut ports = Ports::open(&self.root, &self.graph)?;
         for lane in &self.graph.lanes {
-            let mut file = ports.source_file(&self.graph, lane.id)?;
+            let mut file = File::open(self.root.join(&lane.ports.path))?;
             for i in 0..lane.port_count {
                 let p = storage::port_at(&mut file, k as usize, i)?;
                 let mut dna = sources.fetch(p.source, p.anchor, p.anchor + k)?;
