@@ -1,5 +1,5 @@
 //! The original's recorded answers (oracle/recorded), asked for through the crate.
-//! Records about rooms that the crate never lends (13, 21, 37) are passed over.
+//! Records about rooms that the crate never lends (13, 21) are passed over.
 use panel_routes::{
     lower_bound, Assignment, Frame, Job, Panel, PanelBuilder, Refusal, Scored, SearchBudget, Sheet, Status,
 };
@@ -239,15 +239,17 @@ fn letters_of_lanes() {
 
 #[test]
 fn spellings() {
-    replay("spell.bin", &[37], |r| {
+    replay("spell.bin", &[], |r| {
         let (own, rest) = lane_letters(&r.arguments);
         let slot = usize::try_from(rest[1]).unwrap_or(usize::MAX);
+        let mut out = vec![b'-'; rest[0] as usize];
         let panel = Panel::new(&r.image[..])?;
         let lanes = panel.letters(own)?;
-        let mut spelled = lanes.spell(&Assignment::from_words(&rest[5..])?, slot, rest[2], rest[3])?;
-        let n = spelled.len();
-        spelled.resize(n.next_multiple_of(8), 0);
-        Ok([vec![n as u64], words(&spelled)].concat())
+        let assignment = Assignment::from_words(&rest[5..])?;
+        let n = lanes.spell_into(&assignment, slot, rest[2]..rest[3], &mut out)?;
+        assert!(out.split_off(n).iter().all(|b| *b == b'-'));
+        out.resize(n.next_multiple_of(8), 0);
+        Ok([vec![n as u64], words(&out)].concat())
     });
 }
 
