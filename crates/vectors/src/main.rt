@@ -10,6 +10,7 @@ mod printed;
 mod record;
 mod rooms;
 mod searches;
+mod spellings;
 
 use crate::record::Head;
 
@@ -68,6 +69,8 @@ fn answered(h: Head, image: &[u8], body: &[u8]) -> bool {
         7 => printed::is_job(image, body, at, end),
         8 => bounds::is_bound(body, arguments, at, end),
         9 => plain::is_plain(image, body, arguments, at, end),
+        10 => spellings::is_letters(image, body, arguments, at, end),
+        11 => spellings::is_spell(image, body, arguments, at, end),
         _ => false,
     }
 }
@@ -83,6 +86,8 @@ struct Sheet {
     job: Score,
     bound: Score,
     plain: Score,
+    letters: Score,
+    spell: Score,
     unknown: Score,
 }
 
@@ -116,6 +121,12 @@ impl Sheet {
             }
             9 => {
                 s.plain = s.plain.counted(is_same);
+            }
+            10 => {
+                s.letters = s.letters.counted(is_same);
+            }
+            11 => {
+                s.spell = s.spell.counted(is_same);
             }
             _ => {
                 s.unknown = s.unknown.counted(is_same);
@@ -190,6 +201,8 @@ fn main() {
         job: none,
         bound: none,
         plain: none,
+        letters: none,
+        spell: none,
         unknown: none,
     };
     let mut turns: u64 = 1000000;
@@ -214,5 +227,7 @@ fn main() {
     print(b"job ", sheet.job);
     print(b"bound ", sheet.bound);
     print(b"plain ", sheet.plain);
+    print(b"letters ", sheet.letters);
+    print(b"spell ", sheet.spell);
     print(b"unknown ", sheet.unknown);
 }
