@@ -224,7 +224,7 @@ fn sites(rng: &mut Rng, spec: &mut Spec, lane: u64, length: u64, pool: &[Vec<u8>
     }
 }
 
-pub fn push(spec: &mut Spec, source: u64, anchor: u64, declared: bool, word: &[u8], reverse: bool) {
+fn push(spec: &mut Spec, source: u64, anchor: u64, declared: bool, word: &[u8], reverse: bool) {
     if declared {
         spec.ports.push(PortSpec { word: word.to_vec(), source, anchor, reverse });
     }
