@@ -100,10 +100,6 @@ width-small s h b g k =
 
 -- ---- the refusals
 
-pub at-some : (n place : ℕ) (later : Refusal) → 0 < n → at n place later ≡ record { number = n; place = place }
-at-some zero place later h = let z : ⊥ = omega arith in absurd z
-at-some (suc n) place later h = refl
-
 pub at-none : (n place : ℕ) (later : Refusal) → n ≡ 0 → at n place later ≡ later
 at-none n place later e = rw e
 

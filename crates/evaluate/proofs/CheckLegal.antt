@@ -35,6 +35,10 @@ pub unless-zero : (b : Bool) (n m : ℕ) → unless b (suc n) m ≡ 0 → (b ≡
 unless-zero true n m e = (refl, e)
 unless-zero false n m e = let z : suc n ≡ 0 = e in let x : ⊥ = omega arith in absurd x
 
+pub at-some : (n place : ℕ) (later : Refusal) → 0 < n → at n place later ≡ record { number = n; place = place }
+at-some zero place later h = let z : ⊥ = omega arith in absurd z
+at-some (suc n) place later h = refl
+
 pub at-zero : (n i : ℕ) (later : Refusal) → at n i later .number ≡ 0 → (n ≡ 0) × (later .number ≡ 0)
 at-zero zero i later e = (refl, e)
 at-zero (suc n) i later e = let z : suc n ≡ 0 = e in let x : ⊥ = omega arith in absurd x

@@ -275,14 +275,14 @@ module _ (p : Panel) (d : List ℕ) (a : Bool) (ea : a ≡ sound39 p d) where
     unfolding lettersRefusal
     refused-none z = rw (← ea, t, ← eb, z)
 
-pub at-none : (n : ℕ) → record { number = n; place = 0 } ≡ at n 0 noRefusal
-at-none zero = refl
-at-none (suc n) = refl
+pub at-last : (n : ℕ) → record { number = n; place = 0 } ≡ at n 0 noRefusal
+at-last zero = refl
+at-last (suc n) = refl
 
 module _ (s : List ℕ) (d : List ℕ) (o : Opened) (eo : o ≡ checked s) where
   pub answer-good : (h : Header) (n : ℕ) → o ≡ Good h → n ≡ lettersRefusal (panelOf s) d → record { number = n; place = 0 } ≡ lettersAnswer s d
   unfolding lettersAnswer panelRefusal
-  answer-good h n t e = at-none n ∙ rw (← eo, t, e)
+  answer-good h n t e = at-last n ∙ rw (← eo, t, e)
 
   -- 1 to 8 come first, whatever is asked after them
   pub panel-first : (n : ℕ) (later : Refusal) → o ≡ Refused n → record { number = n; place = 0 } ≡ at (panelRefusal s) 0 later

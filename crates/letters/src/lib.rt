@@ -22,7 +22,7 @@ fn exchange(b: u8, from: u8, to: u8, rest: u8) -> u8
     if b == from { to } else { rest }
 }
 
-// Four choices and no branch: letters come in no order that a branch could learn.
+// Four choices and no branch; a match is compiled to a jump by a table.
 fn complement(b: u8) -> u8
     ensures { λ r. ⌜ r ≡ complement b ⌝ }
 {

@@ -24,7 +24,8 @@ use Rattle.search.specs.Budget.{budgetRefusal}
 use Rattle.search.specs.Rooms.{clears, leftIn, slotWidth, framesNeeded, listRoomsRefusal}
 use Rattle.search.specs.Answers.{ListRooms, refusedList, listedIn, listRefusal, listAnswer, listRooms}
 use Rattle.budget.specs.Inner.{Bounded, listRoomsBy}
-use Rattle.budget.proofs.Laws.{at-some, at-none, budget-bounded, budget-frontier, list-rooms-by}
+use Rattle.evaluate.proofs.CheckLegal.{at-some}
+use Rattle.budget.proofs.Laws.{at-none, budget-bounded, budget-frontier, list-rooms-by}
 use Rattle.listing.specs.Inner.{FrameRoom, Told, listPanelRefusal, Replied}
 
 -- ---- a refusal's answer

@@ -42,7 +42,8 @@ use Rattle.walks.proofs.Laws.{frames-left}
 use Rattle.kept.specs.Inner.{noHolding, Keeps, Left, Begun}
 use Rattle.kept.proofs.Rooms.{keeps-none, left-on, keeps-count, keeps-discarded, room-left, scores-left, room-begun, scores-begun}
 use Rattle.budget.specs.Inner.{Bounded, roomsBy}
-use Rattle.budget.proofs.Laws.{at-some, at-none, budget-bounded, budget-frontier, rooms-by, rooms-long}
+use Rattle.evaluate.proofs.CheckLegal.{at-some}
+use Rattle.budget.proofs.Laws.{at-none, budget-bounded, budget-frontier, rooms-by, rooms-long}
 use Rattle.enumeration.proofs.Room.{handed-fits}
 use Rattle.searching.specs.declared.Account.{Account}
 use Rattle.searching.specs.declared.Found.{Found}

@@ -2,13 +2,12 @@
 use Prim.Native.Nat.{ℕ, zero, suc, _+_, _-_, _≤_, _<_}
 use native.Mathlib.Omega.{arith}
 use mathlib.Core.Path.{_≡_, refl, sym, ap, ap₂, _∙_, subst}
-use mathlib.Core.Bool.{true, false, _&&_}
+use mathlib.Core.Bool.{true, false}
 use mathlib.Core.List.{List, [], _∷_, _++_}
-use lib.Dec.{leb, ltb, eqb}
+use lib.Dec.{eqb}
 use lib.ListN.{length, drop, getD}
 use lib.Seq.{sets, sets-eq}
-use borrow.Author.Tests.{ne-eqb, leb-true, ltb-true}
-use Rattle.ground.proofs.ListLaws.{both}
+use borrow.Author.Tests.{ne-eqb}
 use Rattle.image.specs.declared.Header.{Header}
 use Rattle.image.specs.declared.Opened.{Opened}
 use Rattle.image.specs.declared.Opened.the-variants.{Good, Refused}
@@ -24,17 +23,17 @@ use Rattle.evaluate.specs.Check.{andAfter, givenRefusal}
 use Rattle.evaluate.proofs.Lists.{append-each}
 use Rattle.evaluate.proofs.Native.{checked-none}
 use Rattle.evaluate.proofs.Ports.{rows-of}
-use Rattle.evaluate.proofs.CheckLegal.{accepted-legal, unless-zero}
+use Rattle.evaluate.proofs.CheckLegal.{at-some, accepted-legal, unless-zero}
 use Rattle.words.specs.Inner.{segmentsOf, assignmentOf, RouteAt}
 use Rattle.words.proofs.Writing.{routes-length}
 use Rattle.letters.specs.Letters.{lettersRefusal, sound39, sound40}
 use Rattle.letters.specs.Inner.{Based}
-use Rattle.letters.proofs.Laws.{panel-first, letters-told, at-none}
+use Rattle.letters.proofs.Laws.{panel-first, letters-told, at-last}
 use Rattle.assignment.proofs.Given.{given}
 use Rattle.spell.specs.declared.SpellReply.{SpellReply}
-use Rattle.spell.specs.Spelling.{spellRoute, crop, routesIn, routeIn, spelled, cropOk, cropRefusal, spellRefusal, spellAnswer, spellOut}
+use Rattle.spell.specs.Spelling.{spellRoute, crop, routesIn, routeIn, spelled, cropRefusal, spellingRefusal, spellRefusal, spellAnswer, spellOut}
 use Rattle.spell.specs.Inner.{sizes, SlotAt, cropBy, routeBy, Inside, Passed, Replied}
-use Rattle.spell.proofs.Crops.{crop-length, route-length, inside-of, route-by}
+use Rattle.spell.proofs.Crops.{Fits, fits-of, crop-length, route-length, inside-of, route-by}
 
 -- ---- the route of a slot
 
@@ -54,34 +53,17 @@ module _ (s : List ℕ) (h : Header) (d ws : List ℕ) (ok : Passed s h d ws) wh
   slot-length slot = route-length (panelOf s) d (ok .lettered .total) (getD (assignmentOf ws .routes) slot []) (spans-of slot)
 
   pub crop-by : (slot from to room : ℕ) → cropBy ws slot from to room ≡ cropRefusal (panelOf s) d ws slot from to room
-  unfolding cropBy cropRefusal cropOk
+  unfolding cropBy cropRefusal
   crop-by slot from to room =
       let n : length (assignmentOf ws .routes) ≡ getD ws 1 0 = routes-length (getD ws 1 0) (drop 2 ws) in
       sym (rw (routes-are, n, slot-length slot))
 
 -- ---- a crop that is not refused
 
-pub record Cropped (ws : List ℕ) (slot from to room : ℕ) : Type 0 where
-  pub named : slot < getD ws 1 0
-  pub some : from < to
-  pub far : to ≤ sizes (getD (assignmentOf ws .routes) slot [])
-  pub short : to - from ≤ room
-
-cropped : (ws : List ℕ) (slot from to room : ℕ) → cropBy ws slot from to room ≡ 0 → Cropped ws slot from to room
-unfolding cropBy
-cropped ws slot from to room e =
-    let a = ltb slot (getD ws 1 0) in
-    let b = ltb from to in
-    let c = leb to (sizes (getD (assignmentOf ws .routes) slot [])) in
-    let (x, y) = unless-zero (a && b && c) 40 (unless (leb (to - from) room) 37 0) e in
-    let (z, w) = unless-zero (leb (to - from) room) 36 0 y in
-    let (u, v) = both (a && b) c x in
-    let (t, q) = both a b u in
-    record { named = ltb-true _ _ t; some = ltb-true _ _ q; far = leb-true _ _ v; short = leb-true _ _ z }
-
 module _ (ws : List ℕ) (slot from to room n : ℕ) (en : n ≡ cropBy ws slot from to room) (z : n ≤ 0) where
-  pub crop-passes : Cropped ws slot from to room
-  crop-passes = cropped ws slot from to room (let e : n ≡ 0 = omega arith in sym en ∙ e)
+  pub crop-passes : Fits (getD ws 1 0) (sizes (getD (assignmentOf ws .routes) slot [])) slot from to room
+  unfolding cropBy
+  crop-passes = fits-of (getD ws 1 0) (sizes (getD (assignmentOf ws .routes) slot [])) slot from to room (let e : n ≡ 0 = omega arith in sym en ∙ e)
 
   pub crop-named : slot < getD ws 1 0
   crop-named = crop-passes .named
@@ -117,7 +99,7 @@ module _ (s : List ℕ) (h : Header) (d ws : List ℕ) (ok : Passed s h d ws) (s
 
   pub passed-refused : 0 < n → r ≡ record { refusal = n; place = 0; letters = 0 } → Replied (at (cropRefusal (panelOf s) d ws slot from to (length xs)) 0 noRefusal) (panelOf s) d ws slot from to xs xs r
   passed-refused lt e =
-      subst (λ (q : Refusal). Replied q (panelOf s) d ws slot from to xs xs r) (at-none n ∙ ap (λ (m : ℕ). at m 0 noRefusal) says)
+      subst (λ (q : Refusal). Replied q (panelOf s) d ws slot from to xs xs r) (at-last n ∙ ap (λ (m : ℕ). at m 0 noRefusal) says)
       (replied-refused (record { number = n; place = 0 }) (panelOf s) d ws slot from to xs r lt e)
 
   pub passed-spelled : n ≤ 0 → (at′ left : ℕ) → SlotAt ws slot at′ → RouteAt ws at′ left → (bases ys : List ℕ) → Based s h d bases → ys ≡ sets xs 0 (crop from to (routeBy bases d (segmentsOf left (drop (at′ + 1) ws))))
@@ -133,7 +115,7 @@ module _ (s : List ℕ) (h : Header) (d ws : List ℕ) (ok : Passed s h d ws) (s
       w : List ℕ
       w = crop from to (spellRoute (panelOf s) d (routeIn ws slot))
 
-      okay : Cropped ws slot from to (length xs)
+      okay : Fits (getD ws 1 0) (sizes (getD (assignmentOf ws .routes) slot [])) slot from to (length xs)
       okay = crop-passes ws slot from to (length xs) n en z
 
       same : crop from to (routeBy bases d (segmentsOf left (drop (at′ + 1) ws))) ≡ w
@@ -156,13 +138,9 @@ module _ (s : List ℕ) (h : Header) (d ws : List ℕ) (ok : Passed s h d ws) (s
 
 -- ---- 39, 40, the check's from 22 on
 
-at-some : (n place : ℕ) (later : Refusal) → 0 < n → at n place later ≡ record { number = n; place = place }
-at-some zero place later h = let z : ⊥ = omega arith in absurd z
-at-some (suc n) place later h = refl
-
 module _ (s : List ℕ) (h : Header) (d ws : List ℕ) (slot from to : ℕ) (xs ys : List ℕ) (r : SpellReply) (n : ℕ) (en : n ≡ lettersRefusal (panelOf s) d) where
   pub accepted-letters : 0 < n → r ≡ record { refusal = n; place = 0; letters = 0 }
-      → Replied (at (lettersRefusal (panelOf s) d) 0 (andAfter (givenRefusal (panelOf s) ws) (at (cropRefusal (panelOf s) d ws slot from to (length xs)) 0 noRefusal))) (panelOf s) d ws slot from to xs xs r
+      → Replied (spellingRefusal (panelOf s) d ws slot from to (length xs)) (panelOf s) d ws slot from to xs xs r
   accepted-letters lt e =
       subst (λ (q : Refusal). Replied q (panelOf s) d ws slot from to xs xs r) (sym (at-some n 0 (andAfter (givenRefusal (panelOf s) ws) (at (cropRefusal (panelOf s) d ws slot from to (length xs)) 0 noRefusal)) lt) ∙ ap (λ (m : ℕ). at m 0 (andAfter (givenRefusal (panelOf s) ws) (at (cropRefusal (panelOf s) d ws slot from to (length xs)) 0 noRefusal))) en)
       (replied-refused (record { number = n; place = 0 }) (panelOf s) d ws slot from to xs r lt e)
@@ -172,7 +150,7 @@ module _ (s : List ℕ) (h : Header) (d ws : List ℕ) (slot from to : ℕ) (xs 
     nought = let e : 0 ≡ n = omega arith in e ∙ en
 
     pub accepted-given : 0 < q .number → r ≡ record { refusal = q .number; place = q .place; letters = 0 }
-        → Replied (at (lettersRefusal (panelOf s) d) 0 (andAfter (givenRefusal (panelOf s) ws) (at (cropRefusal (panelOf s) d ws slot from to (length xs)) 0 noRefusal))) (panelOf s) d ws slot from to xs xs r
+        → Replied (spellingRefusal (panelOf s) d ws slot from to (length xs)) (panelOf s) d ws slot from to xs xs r
     accepted-given lt e =
         subst (λ (x : Refusal). Replied x (panelOf s) d ws slot from to xs xs r)
         (sym (at-some (q .number) (q .place) (at (cropRefusal (panelOf s) d ws slot from to (length xs)) 0 noRefusal) lt)
@@ -180,7 +158,7 @@ module _ (s : List ℕ) (h : Header) (d ws : List ℕ) (slot from to : ℕ) (xs 
         (replied-refused q (panelOf s) d ws slot from to xs r lt e)
 
     pub accepted-rest : q .number ≤ 0 → Replied (at (cropRefusal (panelOf s) d ws slot from to (length xs)) 0 noRefusal) (panelOf s) d ws slot from to xs ys r
-        → Replied (at (lettersRefusal (panelOf s) d) 0 (andAfter (givenRefusal (panelOf s) ws) (at (cropRefusal (panelOf s) d ws slot from to (length xs)) 0 noRefusal))) (panelOf s) d ws slot from to xs ys r
+        → Replied (spellingRefusal (panelOf s) d ws slot from to (length xs)) (panelOf s) d ws slot from to xs ys r
     accepted-rest le t =
         let m : 0 ≡ q .number = omega arith in
         subst (λ (x : Refusal). Replied x (panelOf s) d ws slot from to xs ys r)
@@ -203,8 +181,8 @@ passed-of s h d ws n q acc en z eq le =
 
 module _ (s d ws : List ℕ) (slot from to : ℕ) (xs ys : List ℕ) (r : SpellReply) where
   module _ (o : Opened) (eo : o ≡ checked s) (h : Header) (t : o ≡ Good h)
-      (a : Replied (at (lettersRefusal (panelOf s) d) 0 (andAfter (givenRefusal (panelOf s) ws) (at (cropRefusal (panelOf s) d ws slot from to (length xs)) 0 noRefusal))) (panelOf s) d ws slot from to xs ys r) where
-    passes : at (lettersRefusal (panelOf s) d) 0 (andAfter (givenRefusal (panelOf s) ws) (at (cropRefusal (panelOf s) d ws slot from to (length xs)) 0 noRefusal)) ≡ spellRefusal s d ws slot from to (length xs)
+      (a : Replied (spellingRefusal (panelOf s) d ws slot from to (length xs)) (panelOf s) d ws slot from to xs ys r) where
+    passes : spellingRefusal (panelOf s) d ws slot from to (length xs) ≡ spellRefusal s d ws slot from to (length xs)
     unfolding spellRefusal panelRefusal
     passes = rw (← eo, t)
 
@@ -219,7 +197,7 @@ module _ (s d ws : List ℕ) (slot from to : ℕ) (xs ys : List ℕ) (r : SpellR
   module _ (o : Opened) (eo : o ≡ checked s) (n : ℕ) (t : o ≡ Refused n) where
     stops : record { number = n; place = 0 } ≡ spellRefusal s d ws slot from to (length xs)
     unfolding spellRefusal
-    stops = panel-first s d o eo n (at (lettersRefusal (panelOf s) d) 0 (andAfter (givenRefusal (panelOf s) ws) (at (cropRefusal (panelOf s) d ws slot from to (length xs)) 0 noRefusal))) t
+    stops = panel-first s d o eo n (spellingRefusal (panelOf s) d ws slot from to (length xs)) t
 
     some : 0 < n
     some = go n refl

@@ -3,12 +3,12 @@ use Prim.Native.Nat.{ℕ, suc, _+_, _-_, _/_, _≤_, _<_}
 use native.Mathlib.Omega.{arith}
 use native.Mathlib.Decide.{decLt}
 use mathlib.Core.Path.{_≡_, refl, sym, ap, ap₂, _∙_, subst}
-use mathlib.Core.Bool.{Bool, true, false, _&&_}
+use mathlib.Core.Bool.{Bool, true, false}
 use mathlib.Core.List.{List, [], _∷_, _++_, map, List·Memᴰ, cons≢nil}
-use lib.Dec.{leb, ltb, eqb}
+use lib.Dec.{eqb}
 use lib.Seq.{take-at, drop-at}
 use lib.ListN.{length, take, drop, getD, length-map, length-append, List·getD-map, List·getD-eq-default}
-use borrow.Author.Tests.{le-leb, lt-ltb, ne-eqb}
+use borrow.Author.Tests.{le-leb, ne-eqb}
 use Rattle.storage.specs.Bytes.{part}
 use Rattle.letters.proofs.Pieces.{part-part}
 use Rattle.ground.specs.Lists.{pick}
@@ -18,7 +18,7 @@ use Rattle.image.proofs.Laws.{panel-k}
 use Rattle.graph.specs.Check.{panelRefusal}
 use Rattle.evaluate.specs.declared.Segment.{Segment}
 use Rattle.evaluate.specs.Properties.{Each}
-use Rattle.evaluate.specs.Refusals.{noRefusal, unless}
+use Rattle.evaluate.specs.Refusals.{noRefusal}
 use Rattle.evaluate.specs.Segments.{Route, Assignment, SoundSpan, flat, joinable, joined, joining, normalize, normalForm}
 use Rattle.evaluate.specs.Legal.{Legal, SoundSpans}
 use Rattle.evaluate.specs.Words.{got, segmentWords, routeWords, encode, decode}
@@ -33,14 +33,14 @@ use Rattle.words.specs.Inner.{assignmentOf}
 use Rattle.words.proofs.Writing.{segment-words-length}
 use Rattle.letters.specs.Letters.{lettersRefusal}
 use Rattle.assignment.proofs.Given.{Given, given}
-use Rattle.spell.specs.Spelling.{spellRoute, crop, routesIn, routeIn, spelled, cropOk, cropRefusal, spellRefusal, spellAnswer, spellOut}
+use Rattle.spell.specs.Spelling.{spellRoute, crop, routesIn, routeIn, spelled, cropNumber, cropRefusal, spellRefusal, spellAnswer, spellOut}
 use Rattle.spell.specs.Theorems.{around, ReadsWord, Switch, switchAt, SameCall, NormalWordsSpellTheSame, CallReadsWord, CallsReadWords, Spells, SpellHolds}
 use Rattle.spell.specs.declared.SpellReply.{SpellReply}
-use Rattle.spell.proofs.Crops.{crop-length, early}
+use Rattle.spell.proofs.Crops.{crop-length, early, Fits}
 use Rattle.spell.proofs.Answers.{spans-at}
 use Rattle.spell.proofs.Normal.{normal-spells}
 use Rattle.spell.proofs.Switches.{spell-last, spell-past, switches-read-words}
-use Rattle.spell.proofs.Cuts.{NotRefused, not-refused, refused-not, Fits, fits-of, of-fits, spelled-into}
+use Rattle.spell.proofs.Cuts.{NotRefused, not-refused, refused-not, crop-fits, fits-crop, spelled-into}
 
 -- ---- the normal form is no longer
 
@@ -161,9 +161,9 @@ module _ (s d ws : List ℕ) (pn : panelRefusal s ≡ 0) (ln : lettersRefusal (p
   same-count = ap length normal-routes ∙ length-map (assignmentOf ws .routes) normalize ∙ ap length (sym given-routes)
 
   same-crop : (slot from to room : ℕ) → cropRefusal (panelOf s) d (normalWords ws) slot from to room ≡ cropRefusal (panelOf s) d ws slot from to room
-  unfolding cropRefusal cropOk
+  unfolding cropRefusal
   same-crop slot from to room =
-      ap₂ (λ (n : ℕ) (w : List ℕ). unless (ltb slot n && ltb from to && leb to (length w)) 41 (unless (leb (to - from) room) 37 0)) same-count (same-letters slot)
+      ap₂ (λ (n : ℕ) (w : List ℕ). cropNumber n (length w) slot from to room) same-count (same-letters slot)
 
   same-refusal : (slot from to room : ℕ) → spellRefusal s d (normalWords ws) slot from to room ≡ spellRefusal s d ws slot from to room
   unfolding spellRefusal
@@ -200,8 +200,8 @@ module _ (s d ws : List ℕ) (pn : panelRefusal s ≡ 0) (ln : lettersRefusal (p
             let past : length (map normalize (assignmentOf ws .routes)) ≤ slot = omega arith in
             absurd (longer before after u v (sym (is ∙ List·getD-eq-default (map normalize (assignmentOf ws .routes)) [] {n = slot} past) ∙ e))
 
-    named : ltb slot (length (routesIn (decode ws))) ≡ true
-    named = lt-ltb slot (length (routesIn (decode ws))) (subst (λ (rs : List Route). slot < length rs) (sym given-routes) within)
+    named : slot < length (routesIn (decode ws))
+    named = subst (λ (rs : List Route). slot < length rs) (sym given-routes) within
 
     among : List·Memᴰ (normalize (routeIn ws slot)) (map normalize (assignmentOf ws .routes))
     among =
@@ -253,7 +253,7 @@ module _ (s d ws : List ℕ) (pn : panelRefusal s ≡ 0) (ln : lettersRefusal (p
           panel = pn;
           letters = ln;
           given = gn;
-          crop = of-fits (panelOf s) d ws slot (place - panelOf s .k / 2) (place + (panelOf s .k - panelOf s .k / 2)) (length out) (record { named = named slot first u v last (w .is); some = omega arith; far = b; short = omega arith });
+          crop = fits-crop (panelOf s) d ws slot (place - panelOf s .k / 2) (place + (panelOf s .k - panelOf s .k / 2)) (length out) (record { named = named slot first u v last (w .is); some = omega arith; far = b; short = omega arith });
         })
 
     call-reads : (out : List ℕ) → panelOf s .k ≤ length out → CallReadsWord s d ws slot (switchAt (panelOf s) d first u) out u v
@@ -297,8 +297,8 @@ module _ (s d ws : List ℕ) (slot from to : ℕ) (xs ys : List ℕ) (r : SpellR
     none : spellRefusal s d ws slot from to (length xs) ≡ noRefusal
     none = refused-not s d ws slot from to (length xs) passed
 
-    fits : Fits (panelOf s) d ws slot from to (length xs)
-    fits = fits-of (panelOf s) d ws slot from to (length xs) (passed .crop)
+    fits : Fits (length (routesIn (decode ws))) (length (spellRoute (panelOf s) d (routeIn ws slot))) slot from to (length xs)
+    fits = crop-fits (panelOf s) d ws slot from to (length xs) (passed .crop)
 
     long : length (spelled (panelOf s) d ws slot from to) ≡ to - from
     unfolding spelled

@@ -3,21 +3,27 @@ use Prim.Native.Nat.{ℕ, _+_, _-_, _≤_, _<_, min}
 use native.Mathlib.Omega.{arith}
 use native.Mathlib.Decide.{decLe}
 use mathlib.Core.Path.{_≡_, refl, sym, ap, ap₂, _∙_}
+use mathlib.Core.Bool.{_&&_}
 use mathlib.Core.List.{List, [], _∷_, _++_, append-nil}
+use lib.Dec.{leb, ltb}
 use lib.ListN.{length, take, drop, length-append, length-drop}
 use lib.Seq.{take-append-le, drop-append-le, take-append-add, drop-append-add, take-all}
+use borrow.Author.Tests.{leb-true, ltb-true, le-leb, lt-ltb}
 use Rattle.ground.specs.Lists.{sum}
+use Rattle.ground.proofs.ListLaws.{both}
 use Rattle.storage.specs.Bytes.{part}
 use Rattle.image.specs.declared.Header.{Header}
 use Rattle.image.specs.Panel.{Panel, panelOf}
 use Rattle.image.proofs.Laws.{panel-lanes}
 use Rattle.evaluate.specs.declared.Segment.{Segment}
 use Rattle.evaluate.specs.Properties.{Each}
+use Rattle.evaluate.specs.Refusals.{unless}
 use Rattle.evaluate.specs.Segments.{Route, SoundSpan}
+use Rattle.evaluate.proofs.CheckLegal.{unless-zero}
 use Rattle.letters.specs.Letters.{lengths}
 use Rattle.letters.specs.Inner.{Based}
 use Rattle.letters.proofs.Pieces.{part-length, part-join, lane-room, piece-is, piece-length}
-use Rattle.spell.specs.Spelling.{spellSegment, spellRoute, crop}
+use Rattle.spell.specs.Spelling.{spellSegment, spellRoute, crop, cropNumber}
 use Rattle.spell.specs.Inner.{sizeOf, sizes, lettersBy, routeBy, Inside}
 
 -- ---- crops
@@ -75,6 +81,29 @@ module _ (u v : List ℕ) (lo hi : ℕ) (order : lo ≤ hi) where
           let y : b ≡ length u = omega arith in
           let z : length u - length u ≡ 0 = omega arith in
           later (omega arith) ∙ rw (x, y, z)
+
+-- ---- 41 and 37
+
+pub record Fits (routes size slot from to room : ℕ) : Type 0 where
+  pub named : slot < routes
+  pub some : from < to
+  pub far : to ≤ size
+  pub short : to - from ≤ room
+
+module _ (routes size slot from to room : ℕ) where
+  pub fits-of : cropNumber routes size slot from to room ≡ 0 → Fits routes size slot from to room
+  fits-of e =
+      let a = ltb slot routes in
+      let b = ltb from to in
+      let c = leb to size in
+      let (x, y) = unless-zero (a && b && c) 40 (unless (leb (to - from) room) 37 0) e in
+      let (z, w) = unless-zero (leb (to - from) room) 36 0 y in
+      let (u, v) = both (a && b) c x in
+      let (t, q) = both a b u in
+      record { named = ltb-true _ _ t; some = ltb-true _ _ q; far = leb-true _ _ v; short = leb-true _ _ z }
+
+  pub of-fits : Fits routes size slot from to room → cropNumber routes size slot from to room ≡ 0
+  of-fits f = rw (lt-ltb slot routes (f .named), lt-ltb from to (f .some), le-leb to size (f .far), le-leb (to - from) room (f .short))
 
 -- ---- how many letters a route spells
 

@@ -2,24 +2,20 @@
 use Prim.Native.Nat.{ℕ, _-_, _≤_, _<_}
 use native.Mathlib.Omega.{arith}
 use mathlib.Core.Path.{_≡_, sym, ap, ap₂, _∙_}
-use mathlib.Core.Bool.{true, _&&_}
 use mathlib.Core.List.{List, _++_}
-use lib.Dec.{leb, ltb}
 use lib.ListN.{length, drop}
 use lib.Seq.{take-append-seam}
-use borrow.Author.Tests.{leb-true, ltb-true, le-leb, lt-ltb}
-use Rattle.ground.proofs.ListLaws.{both}
 use Rattle.image.specs.Panel.{Panel, panelOf}
 use Rattle.graph.specs.Check.{panelRefusal}
 use Rattle.evaluate.specs.declared.Refusal.{Refusal}
-use Rattle.evaluate.specs.Refusals.{noRefusal, unless, at}
+use Rattle.evaluate.specs.Refusals.{noRefusal, at}
 use Rattle.evaluate.specs.Words.{decode}
 use Rattle.evaluate.specs.Check.{andAfter, givenRefusal}
-use Rattle.evaluate.proofs.CheckLegal.{at-zero, unless-zero}
+use Rattle.evaluate.proofs.CheckLegal.{at-zero}
 use Rattle.letters.specs.Letters.{lettersRefusal}
-use Rattle.spell.specs.Spelling.{spellRoute, routesIn, routeIn, spelled, cropOk, cropRefusal, spellRefusal, spellAnswer, spellOut}
+use Rattle.spell.specs.Spelling.{spellRoute, routesIn, routeIn, spelled, cropRefusal, spellRefusal, spellAnswer, spellOut}
 use Rattle.spell.specs.Theorems.{spelledInto, CutInTwo}
-use Rattle.spell.proofs.Crops.{crop-cut}
+use Rattle.spell.proofs.Crops.{crop-cut, Fits, fits-of, of-fits}
 
 -- a crop is not refused exactly when 1 to 8, 39 and 40, 22 to 31, and 41 and 37 are not
 pub record NotRefused (s d ws : List ℕ) (slot from to room : ℕ) : Type 0 where
@@ -44,27 +40,13 @@ unfolding spellRefusal
 refused-not s d ws slot from to room n = rw (n .panel, n .letters, n .given, n .crop)
 
 module _ (p : Panel) (d ws : List ℕ) (slot from to room : ℕ) where
-  pub record Fits : Type 0 where
-    pub named : ltb slot (length (routesIn (decode ws))) ≡ true
-    pub some : from < to
-    pub far : to ≤ length (spellRoute p d (routeIn ws slot))
-    pub short : to - from ≤ room
+  pub crop-fits : cropRefusal p d ws slot from to room ≡ 0 → Fits (length (routesIn (decode ws))) (length (spellRoute p d (routeIn ws slot))) slot from to room
+  unfolding cropRefusal
+  crop-fits e = fits-of (length (routesIn (decode ws))) (length (spellRoute p d (routeIn ws slot))) slot from to room e
 
-  pub fits-of : cropRefusal p d ws slot from to room ≡ 0 → Fits
-  unfolding cropRefusal cropOk
-  fits-of e =
-      let a = ltb slot (length (routesIn (decode ws))) in
-      let b = ltb from to in
-      let c = leb to (length (spellRoute p d (routeIn ws slot))) in
-      let (x, y) = unless-zero (a && b && c) 40 (unless (leb (to - from) room) 37 0) e in
-      let (z, w) = unless-zero (leb (to - from) room) 36 0 y in
-      let (u, v) = both (a && b) c x in
-      let (t, q) = both a b u in
-      record { named = t; some = ltb-true _ _ q; far = leb-true _ _ v; short = leb-true _ _ z }
-
-  pub of-fits : Fits → cropRefusal p d ws slot from to room ≡ 0
-  unfolding cropRefusal cropOk
-  of-fits f = rw (f .named, lt-ltb from to (f .some), le-leb to (length (spellRoute p d (routeIn ws slot))) (f .far), le-leb (to - from) room (f .short))
+  pub fits-crop : Fits (length (routesIn (decode ws))) (length (spellRoute p d (routeIn ws slot))) slot from to room → cropRefusal p d ws slot from to room ≡ 0
+  unfolding cropRefusal
+  fits-crop f = of-fits (length (routesIn (decode ws))) (length (spellRoute p d (routeIn ws slot))) slot from to room f
 
 joined-crops : (p : Panel) (d ws : List ℕ) (slot from mid to : ℕ) → from ≤ mid → mid ≤ to → spelled p d ws slot from mid ++ spelled p d ws slot mid to ≡ spelled p d ws slot from to
 unfolding spelled
@@ -78,13 +60,13 @@ spelled-into s d ws slot from to out e = rw e (take-append-seam (spelled (panelO
 -- a crop within one that is accepted, if there is room for it
 pub within-accepted : (s d ws : List ℕ) (slot from to room a b room′ : ℕ) → NotRefused s d ws slot from to room → from ≤ a → a < b → b ≤ to → b - a ≤ room′ → spellRefusal s d ws slot a b room′ ≡ noRefusal
 within-accepted s d ws slot from to room a b room′ n x y z few =
-    let f = fits-of (panelOf s) d ws slot from to room (n .crop) in
+    let f = crop-fits (panelOf s) d ws slot from to room (n .crop) in
     let far = f .far in
     refused-not s d ws slot a b room′ (record {
       panel = n .panel;
       letters = n .letters;
       given = n .given;
-      crop = of-fits (panelOf s) d ws slot a b room′ (record { named = f .named; some = y; far = omega arith; short = few });
+      crop = fits-crop (panelOf s) d ws slot a b room′ (record { named = f .named; some = y; far = omega arith; short = few });
     })
 
 -- For the reader: the first theorem.

@@ -1,9 +1,7 @@
 -- What the spelling call's inner functions promise each other.
 use Prim.Native.Nat.{ℕ, _+_, _-_, _*_, _≤_, _<_}
 use mathlib.Core.Path.{_≡_}
-use mathlib.Core.Bool.{_&&_}
 use mathlib.Core.List.{List, [], _∷_, _++_}
-use lib.Dec.{leb, ltb}
 use lib.ListN.{length, drop, getD}
 use Rattle.storage.specs.Bytes.{part}
 use Rattle.image.specs.declared.Header.{Header}
@@ -12,12 +10,11 @@ use Rattle.evaluate.specs.declared.Segment.{Segment}
 use Rattle.evaluate.specs.declared.Refusal.{Refusal}
 use Rattle.evaluate.specs.Segments.{Route}
 use Rattle.evaluate.specs.Legal.{SoundSpans}
-use Rattle.evaluate.specs.Refusals.{unless}
 use Rattle.evaluate.specs.Check.{over}
 use Rattle.words.specs.Inner.{segmentsOf, assignmentOf, Formed}
 use Rattle.letters.specs.Letters.{oriented}
 use Rattle.letters.specs.Inner.{Lettered}
-use Rattle.spell.specs.Spelling.{spelledBy}
+use Rattle.spell.specs.Spelling.{cropNumber, spelledBy}
 use Rattle.spell.specs.declared.SpellReply.{SpellReply}
 
 -- the letters of a route
@@ -35,7 +32,7 @@ pub record SlotAt (ws : List ℕ) (slot at : ℕ) : Type 0 where
 
 -- 41 and 37 by the segments' sizes
 unfoldable pub cropBy : List ℕ → ℕ → ℕ → ℕ → ℕ → ℕ
-cropBy ws slot from to room = unless (ltb slot (getD ws 1 0) && ltb from to && leb to (sizes (getD (assignmentOf ws .routes) slot []))) 41 (unless (leb (to - from) room) 37 0)
+cropBy ws slot from to room = cropNumber (getD ws 1 0) (sizes (getD (assignmentOf ws .routes) slot [])) slot from to room
 
 -- a segment's letters, by a table of where the lanes' letters begin
 unfoldable pub lettersBy : List ℕ → List ℕ → Segment → List ℕ

@@ -1,6 +1,6 @@
 -- What a route spells, and the answer of the spelling call (02, "The DNA behind the ports").
 use Prim.Native.Nat.{ℕ, _-_}
-use mathlib.Core.Bool.{Bool, _&&_}
+use mathlib.Core.Bool.{_&&_}
 use mathlib.Core.List.{List, [], _∷_, _++_}
 use lib.Dec.{leb, ltb, eqb}
 use lib.ListN.{length, getD}
@@ -42,22 +42,20 @@ routeIn ws slot = getD (routesIn (decode ws)) slot []
 unfoldable pub spelled : Panel → List ℕ → List ℕ → ℕ → ℕ → ℕ → List ℕ
 spelled p d ws slot from to = crop from to (spellRoute p d (routeIn ws slot))
 
--- 41: "no such slot, or crop empty or past its route"
-unfoldable pub cropOk : Panel → List ℕ → List ℕ → ℕ → ℕ → ℕ → Bool
-cropOk p d ws slot from to = ltb slot (length (routesIn (decode ws))) && ltb from to && leb to (length (spellRoute p d (routeIn ws slot)))
+-- 41: "no such slot, or crop empty or past its route", of so many routes, and so many letters of the slot's; then 37: "out too short"
+abbrev pub cropNumber : ℕ → ℕ → ℕ → ℕ → ℕ → ℕ → ℕ
+cropNumber routes size slot from to room = unless (ltb slot routes && ltb from to && leb to size) 41 (unless (leb (to - from) room) 37 0)
 
--- 41, then 37: "out too short"
 unfoldable pub cropRefusal : Panel → List ℕ → List ℕ → ℕ → ℕ → ℕ → ℕ → ℕ
-cropRefusal p d ws slot from to room = unless (cropOk p d ws slot from to) 41 (unless (leb (to - from) room) 37 0)
+cropRefusal p d ws slot from to room = cropNumber (length (routesIn (decode ws))) (length (spellRoute p d (routeIn ws slot))) slot from to room
 
--- 1 to 8, 39 and 40, "the check's from 22 on", 41 and 37: of the image's bytes, the letters, the assignment's words, the slot, the crop, and the bytes of room in out
+-- 39 and 40, "the check's from 22 on", 41 and 37, of an accepted panel
+abbrev pub spellingRefusal : Panel → List ℕ → List ℕ → ℕ → ℕ → ℕ → ℕ → Refusal
+spellingRefusal p d ws slot from to room = at (lettersRefusal p d) 0 (andAfter (givenRefusal p ws) (at (cropRefusal p d ws slot from to room) 0 noRefusal))
+
+-- 1 to 8 first: of the image's bytes, the letters, the assignment's words, the slot, the crop, and the bytes of room in out
 unfoldable pub spellRefusal : List ℕ → List ℕ → List ℕ → ℕ → ℕ → ℕ → ℕ → Refusal
-spellRefusal s d ws slot from to room =
-    at (panelRefusal s) 0
-    (at (lettersRefusal (panelOf s) d) 0
-    (andAfter (givenRefusal (panelOf s) ws)
-    (at (cropRefusal (panelOf s) d ws slot from to room) 0
-    noRefusal)))
+spellRefusal s d ws slot from to room = at (panelRefusal s) 0 (spellingRefusal (panelOf s) d ws slot from to room)
 
 -- what is written: the crop, or on a refusal nothing
 abbrev pub spelledBy : Refusal → Panel → List ℕ → List ℕ → ℕ → ℕ → ℕ → List ℕ

@@ -25,7 +25,7 @@ use Rattle.evaluate.specs.Check.{andAfter, leaves, jointRefusal, jointsRefusal,
 use Rattle.letters.specs.Try.{panelR, lettersR, panelQ, lettersQ}
 use Rattle.letters.specs.Letters.{complement, reverseComplement, lengths, laneLetters, piece, sound39, wordFits, rowFits, sound40, lettersRefusal, lettersAnswer}
 use Rattle.spell.specs.declared.SpellReply.{SpellReply}
-use Rattle.spell.specs.Spelling.{spellSegment, spellRoute, spelled, cropOk, cropRefusal, spellRefusal, spellAnswer, spellOut}
+use Rattle.spell.specs.Spelling.{spellSegment, spellRoute, spelled, cropRefusal, spellRefusal, spellAnswer, spellOut}
 use Rattle.spell.specs.Theorems.{around}
 
 -- TTTACTGGTA and CCCCCACGGC: the letters of E's two lanes
@@ -45,7 +45,7 @@ record Calls : Type 0 where
   out : List ℕ → List ℕ → ℕ → ℕ → ℕ → List ℕ → List ℕ
 
 unfoldable E : Calls
-unfolding little number each split sum all any count keep after rising numbersFrom distinct portOf wordOrder portOrder headerOf sound2 sound3 opened entryOf entries counts pathCounts paths lanePorts hub portsOf startOf families pathsOf zipLanes panelBy panelOf countOk names noTwice sound5a sound5b sound5 lengthOk sound4 letter soundPlace soundRecord soundRecords placeOf placeLt recordLt hubRising laneRising lanesRising samePort listed sound8 from ownRow ownRows sound6 sound7 portsChecked later checked panelE panelRefusal joining apart portsAt standsAt encode readSegments readRoutes readAssignment decode leaves jointRefusal jointsRefusal normalRefusal routeRefusal routesRefusal overlapRefusal assignmentRefusal complement reverseComplement lengths laneLetters piece sound39 wordFits rowFits sound40 lettersRefusal lettersAnswer givenRefusal spellSegment spellRoute spelled cropOk cropRefusal spellRefusal spellAnswer spellOut
+unfolding little number each split sum all any count keep after rising numbersFrom distinct portOf wordOrder portOrder headerOf sound2 sound3 opened entryOf entries counts pathCounts paths lanePorts hub portsOf startOf families pathsOf zipLanes panelBy panelOf countOk names noTwice sound5a sound5b sound5 lengthOk sound4 letter soundPlace soundRecord soundRecords placeOf placeLt recordLt hubRising laneRising lanesRising samePort listed sound8 from ownRow ownRows sound6 sound7 portsChecked later checked panelE panelRefusal joining apart portsAt standsAt encode readSegments readRoutes readAssignment decode leaves jointRefusal jointsRefusal normalRefusal routeRefusal routesRefusal overlapRefusal assignmentRefusal complement reverseComplement lengths laneLetters piece sound39 wordFits rowFits sound40 lettersRefusal lettersAnswer givenRefusal spellSegment spellRoute spelled cropRefusal spellRefusal spellAnswer spellOut
 E = record { letters = lettersAnswer panelE; answer = spellAnswer panelE; out = spellOut panelE }
 
 -- the letters fit; 39: one too few, one too many, an N, and before a word that differs; 40: the word's letter at lane 0's anchor 3, and at lane 1's anchor 7
@@ -109,7 +109,7 @@ unfolding spellsQ
 four = refl
 
 unfoldable after-given : List ℕ → ℕ → ℕ → ℕ → ℕ → Refusal
-unfolding split sum all any count keep wordOrder portOrder joining apart portsAt standsAt readSegments readRoutes readAssignment decode leaves jointRefusal jointsRefusal normalRefusal routeRefusal routesRefusal overlapRefusal assignmentRefusal givenRefusal complement reverseComplement lengths laneLetters piece spellSegment spellRoute cropOk cropRefusal
+unfolding split sum all any count keep wordOrder portOrder joining apart portsAt standsAt readSegments readRoutes readAssignment decode leaves jointRefusal jointsRefusal normalRefusal routeRefusal routesRefusal overlapRefusal assignmentRefusal givenRefusal complement reverseComplement lengths laneLetters piece spellSegment spellRoute cropRefusal
 after-given ws slot from to room = andAfter (givenRefusal panelQ ws) (at (cropRefusal panelQ lettersQ ws slot from to room) 0 noRefusal)
 
 -- 41 and 37 have place 0 in slot 1 too: past its route, too short a room, no such slot; 27 comes before 41

@@ -9,10 +9,9 @@ ghost use Rattle.image.specs.Panel.{panelOf};
 ghost use Rattle.panel.specs.Inner.{Accepted};
 ghost use Rattle.evaluate.specs.Properties.{Each};
 ghost use Rattle.evaluate.specs.Refusals.{noRefusal, at};
-ghost use Rattle.evaluate.specs.Check.{andAfter, givenRefusal};
 ghost use Rattle.words.specs.Inner.{segmentsOf, Formed};
-ghost use Rattle.letters.specs.Letters.{oriented, lettersRefusal};
-ghost use Rattle.spell.specs.Spelling.{crop, cropRefusal, spellAnswer, spellOut};
+ghost use Rattle.letters.specs.Letters.{oriented};
+ghost use Rattle.spell.specs.Spelling.{crop, cropRefusal, spellingRefusal, spellAnswer, spellOut};
 ghost use Rattle.spell.specs.Inner.{sizeOf, sizes, SlotAt, cropBy, lettersBy, routeBy, Inside, Passed, Replied};
 
 // What the spelling call answers: the refusal, and how many letters of out it wrote.
@@ -210,7 +209,7 @@ fn spell_accepted(
     out: &mut [u8],
 ) -> SpellReply
     requires { ⌜ Accepted (now image) h ⌝ }
-    ensures { λ r. ⌜ Replied (at (lettersRefusal (panelOf (now (image .entry))) (now (letters .entry))) 0 (andAfter (givenRefusal (panelOf (now (image .entry))) (now (words .entry))) (at (cropRefusal (panelOf (now (image .entry))) (now (letters .entry)) (now (words .entry)) slot from to (length (now (out .entry)))) 0 noRefusal))) (panelOf (now (image .entry))) (now (letters .entry)) (now (words .entry)) slot from to (now (out .entry)) (now (out .exit)) r ⌝ }
+    ensures { λ r. ⌜ Replied (spellingRefusal (panelOf (now (image .entry))) (now (letters .entry)) (now (words .entry)) slot from to (length (now (out .entry)))) (panelOf (now (image .entry))) (now (letters .entry)) (now (words .entry)) slot from to (now (out .entry)) (now (out .exit)) r ⌝ }
 {
     let n = letters::letters_refusal(image, h, letters);
     if 0 < n {
