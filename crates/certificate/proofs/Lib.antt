@@ -6,8 +6,13 @@ pub mod Listing
 pub mod Walk
 pub mod Scores
 pub mod Certificate
-pub mod Told
+pub mod Slots
+pub mod Sentence
+pub mod Calls
 pub mod Larger
 pub mod LargerListing
+pub mod Raised
 pub mod OnE
+pub mod SentenceOnE
+pub mod OutOfOrder
 pub mod LargerOnE

@@ -14,6 +14,7 @@ use Rattle.evaluate.specs.Check.{over}
 use Rattle.search.specs.declared.SearchBudget.{SearchBudget}
 use Rattle.search.specs.declared.ListReply.{ListReply}
 use Rattle.search.specs.Run.{walk}
+use Rattle.search.specs.Counters.{stopOf, statusOf, statusNumber}
 use Rattle.search.specs.Rooms.{leftIn}
 use Rattle.search.specs.Answers.{ListRooms, listRefusal, refusedList, written, listReplyOf, listAnswer, listedIn, listRooms}
 use Rattle.enumeration.proofs.Tally.{walk-tallied}
@@ -22,7 +23,7 @@ use Rattle.certificate.specs.Demand3.{ListsTheSame}
 use Rattle.certificate.proofs.Unrefused.{unrefused as search-unrefused}
 use Rattle.certificate.proofs.Reply.{evaluations-are}
 
-unrefused : (s : List ℕ) (b : SearchBudget) (from : ℕ) (rooms : ListRooms) → listAnswer s b from rooms .refusal ≡ 0 → listRefusal s b rooms .number ≡ 0
+pub unrefused : (s : List ℕ) (b : SearchBudget) (from : ℕ) (rooms : ListRooms) → listAnswer s b from rooms .refusal ≡ 0 → listRefusal s b rooms .number ≡ 0
 unfolding listAnswer listReplyOf
 unrefused s b from rooms = go (eqb (listRefusal s b rooms .number) 0) refl
   where
@@ -53,6 +54,10 @@ module _ (s : List ℕ) (b : SearchBudget) (from : ℕ) (rooms : ListRooms) (non
   pub words-are : listAnswer s b from rooms .words ≡ length (flat (written from (length (rooms .out)) (handedOver s b)))
   unfolding listReplyOf
   words-are = ap (λ (r : ListReply). r .words) reply-is
+
+  pub status-is : listAnswer s b from rooms .status ≡ statusNumber (statusOf (stopOf (walk (panelOf s) b .ending)) false)
+  unfolding listReplyOf
+  status-is = ap (λ (r : ListReply). r .status) reply-is
 
   pub out-is : listRooms s b from rooms .out ≡ over (flat (written from (length (rooms .out)) (handedOver s b))) (rooms .out)
   unfolding listRooms listedIn leftIn

@@ -38,17 +38,15 @@ use mathlib.Core.Logic.{_⊎_, inl, inr, ⊎-elim}
 use mathlib.Core.List.{List·Memᴰ, List·Memᴰ·cases-cons, List·Memᴰ·not-nil, head-eq-of-cons-eq}
 use Rattle.evaluate.specs.Segments.{Assignment, flat}
 use Rattle.search.proofs.OnE.{unbudgeted-E}
-use Rattle.certificate.specs.Examples.{double, five, four, budget, scores, rooms, fwd, mosaicWords, on, table}
+use Rattle.certificate.specs.Examples.{double, five, four, budget, scores, rooms, fwd, mosaicWords, answersTo, on, table}
 use Rattle.certificate.specs.Terms.{Within, Admitted, Exhausted, Scores, handedOver, evaluations, keptBy, NativesThenLegal, Least}
 use Rattle.certificate.specs.Demand3.{TiedAre, SameEvaluations}
-use Rattle.certificate.specs.Told.{Told}
 use Rattle.certificate.proofs.Certificate.{demand3}
-use Rattle.certificate.proofs.Told.{rooms-tell}
 
 abbrev pub nativeE : Assignment
 nativeE = record { family = 0; routes = (fwd 0 0 10 ∷ []) ∷ [] }
 
-abbrev mosaicE : Assignment
+abbrev pub mosaicE : Assignment
 mosaicE = record { family = 0; routes = (fwd 0 0 4 ∷ fwd 1 6 8 ∷ fwd 0 7 10 ∷ []) ∷ [] }
 
 abbrev pub default : SearchBudget
@@ -141,11 +139,11 @@ scored-E = demand3 .scored panelE default scores rooms admitted-E exhausted-E mo
 
 -- the incumbent is the mosaic
 shown-E : on panelE .kept default .best ≡ best ∷ []
-unfolding on panelE Ieee.ofBits
+unfolding answersTo panelE Ieee.ofBits
 shown-E = refl
 
 best-E : keptBy panelE default scores .best ≡ best ∷ []
-unfolding on
+unfolding answersTo
 best-E = shown-E
 
 pub least-E : Least panelE default scores best
@@ -155,7 +153,7 @@ least-E =
 
 -- and the tied list is complete
 pub certified-E : searchAnswer panelE default scores rooms .status ≡ statusNumber Certified
-unfolding on
+unfolding answersTo
 certified-E = ap (λ (l : List ℕ). getD l 1 0) (table .p0)
 
 pub tied-E : TiedAre panelE default scores best
@@ -166,7 +164,7 @@ abbrev lent : ListRooms
 lent = record { frames = replicate 330 0; slot = replicate 138 0; out = replicate 14 0 }
 
 pub searched-E : searchAnswer panelE default scores rooms .refusal ≡ 0
-unfolding on
+unfolding answersTo
 searched-E = ap (λ (l : List ℕ). getD l 0 0) (table .p0)
 
 listed-E : listAnswer panelE default 0 lent .refusal ≡ 0
@@ -175,7 +173,3 @@ listed-E = rw (admitted-E .panel, admitted-E .budget)
 
 pub listing-E : SameEvaluations panelE default scores rooms 0 lent
 listing-E = demand3 .listing panelE default scores rooms 0 lent searched-E listed-E
-
--- the rooms at exit tell it
-pub told-E : Told panelE default scores rooms
-told-E = rooms-tell panelE default scores rooms admitted-E exhausted-E

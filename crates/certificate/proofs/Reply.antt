@@ -66,17 +66,26 @@ certified-status (onFrontier a) d q = absurd (omega arith)
 
 -- ---- budgets
 
-pub some-frontier : (b : SearchBudget) → budgetRefusal b ≡ 0 → 0 < b .«max_frontier»
-unfolding budgetRefusal budgetOk
-some-frontier b e =
-    let ok : budgetOk b ≡ true = unless-zero (budgetOk b) 10 (unless (budgetInBounds b) 12 0) e .0 in
-    let w = ltb 0 (b .«max_work») in
-    let v = ltb 0 (b .«max_evaluations») in
-    let f = ltb 0 (b .«max_frontier») in
-    let o = ltb 0 (b .«max_optima») in
-    let (wvfo, t) = both (w && v && f && o) (widthOk (b .«tie_width»)) ok in
-    let (wvf, u) = both (w && v && f) o wvfo in
-    ltb-true 0 (b .«max_frontier») (both (w && v) f wvf .1)
+-- what 11 asks of them
+module _ (b : SearchBudget) (e : budgetRefusal b ≡ 0) where
+  some-budgets : (0 < b .«max_evaluations») × (0 < b .«max_frontier»)
+  unfolding budgetRefusal budgetOk
+  some-budgets =
+      let ok : budgetOk b ≡ true = unless-zero (budgetOk b) 10 (unless (budgetInBounds b) 12 0) e .0 in
+      let w = ltb 0 (b .«max_work») in
+      let v = ltb 0 (b .«max_evaluations») in
+      let f = ltb 0 (b .«max_frontier») in
+      let o = ltb 0 (b .«max_optima») in
+      let (wvfo, t) = both (w && v && f && o) (widthOk (b .«tie_width»)) ok in
+      let (wvf, u) = both (w && v && f) o wvfo in
+      let (wv, q) = both (w && v) f wvf in
+      (ltb-true 0 (b .«max_evaluations») (both w v wv .1), ltb-true 0 (b .«max_frontier») q)
+
+  pub some-evaluations : 0 < b .«max_evaluations»
+  some-evaluations = some-budgets .0
+
+  pub some-frontier : 0 < b .«max_frontier»
+  some-frontier = some-budgets .1
 
 -- ---- the answer
 

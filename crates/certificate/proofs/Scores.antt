@@ -18,12 +18,12 @@ use Rattle.search.specs.declared.SearchBudget.{SearchBudget}
 use Rattle.search.specs.Run.{nativesOf}
 use Rattle.search.specs.Keep.{Kept, nothing, Evaluated, scoreOf, sameEvaluated, tiedTo, tiesTo, keepAll}
 use Rattle.search.specs.Answers.{Rooms, searchAnswer}
-use Rattle.evaluate.proofs.Lists.{keep-only, keep-in, pairs-keep, pairs-through, each-mem, mem-map}
+use Rattle.evaluate.proofs.Lists.{keep-only, keep-in, pairs-keep, pairs-map, each-mem, mem-map}
 use Rattle.enumeration.proofs.Suffice.{natives-length}
 use Rattle.doubles.proofs.Order.{is-T, lt→not-le}
 use Rattle.scoring.proofs.Rule.{Finite, champion, champion-least, champion-one, scoring, firsts}
 use Rattle.scoring.proofs.Firsts.{firsts-only, firsts-all, firsts-once, firsts-ahead, Ahead, Other}
-use Rattle.certificate.specs.Terms.{Admitted, Exhausted, Scores, evaluations, handedOver, keptBy, NativesThenLegal, Least, Ties, NoTwo, Earlier, assignmentOf}
+use Rattle.certificate.specs.Terms.{Admitted, Exhausted, Scores, evaluations, handedOver, keptBy, NativesThenLegal, Least, Ties, Earlier, Complete, assignmentOf}
 use Rattle.certificate.specs.Demand3.{AllScored, IncumbentIsLeast, TiedAre, TiedAreAll}
 use Rattle.certificate.proofs.Reply.{admitted-passes, certified-whole}
 use Rattle.certificate.proofs.Evaluated.{same-told, same-tells, kept-is, best-is, made, finites, handed-of}
@@ -137,10 +137,8 @@ module _ (s : List ℕ) (b : SearchBudget) (xs : List Float) (rooms : Rooms) (gi
             from : Ties s b xs best d → List·Memᴰ d (keep near first)
             from t = keep-in near d (t .near) first (first-of d (t .scores))
 
-        no-two : NoTwo (map assignmentOf (keep near first))
-        no-two =
-            pairs-through assignmentOf (Other sameEvaluated assignmentOf same-told same-tells) (λ (a c : Assignment). a ≡ c → ⊥) (λ a c h. h) (keep near first)
-            (pairs-keep near (Other sameEvaluated assignmentOf same-told same-tells) first (firsts-once sameEvaluated assignmentOf same-told same-tells [] (evaluations s b xs) tt))
+        no-two : Pairs (Other sameEvaluated assignmentOf same-told same-tells) (keep near first)
+        no-two = pairs-keep near (Other sameEvaluated assignmentOf same-told same-tells) first (firsts-once sameEvaluated assignmentOf same-told same-tells [] (evaluations s b xs) tt)
 
         earlier : (d f : Evaluated) → Ahead sameEvaluated assignmentOf same-told same-tells (evaluations s b xs) d f → Earlier (handedOver s b) (d .assignment) (f .assignment)
         earlier d f h =
@@ -153,18 +151,17 @@ module _ (s : List ℕ) (b : SearchBudget) (xs : List Float) (rooms : Rooms) (gi
               none = λ m. let r = mem-map assignmentOf u m in h .3 (r .0) (r .1) (sym (r .2));
             }
 
-        in-order : Pairs (Earlier (handedOver s b)) (map assignmentOf (keep near first))
+        abbrev Before : Evaluated → Evaluated → Type 0
+        Before d f = Earlier (handedOver s b) (d .assignment) (f .assignment)
+
+        in-order : Pairs Before (keep near first)
         in-order =
-            pairs-through assignmentOf (Ahead sameEvaluated assignmentOf same-told same-tells (evaluations s b xs)) (Earlier (handedOver s b)) earlier (keep near first)
+            pairs-map (Ahead sameEvaluated assignmentOf same-told same-tells (evaluations s b xs)) Before earlier (keep near first)
             (pairs-keep near (Ahead sameEvaluated assignmentOf same-told same-tells (evaluations s b xs)) first (firsts-ahead sameEvaluated assignmentOf same-told same-tells (evaluations s b xs)))
 
         tied : TiedAre s b xs best
         tied =
-            record {
-              exact = λ d. subst (λ (t : List Evaluated). List·Memᴰ d t ↔ Ties s b xs best d) (sym tied-is) (ties-iff d);
-              once = subst (λ (t : List Evaluated). NoTwo (map assignmentOf t)) (sym tied-is) no-two;
-              inOrder = subst (λ (t : List Evaluated). Pairs (Earlier (handedOver s b)) (map assignmentOf t)) (sym tied-is) in-order;
-            }
+            subst (Complete assignmentOf (handedOver s b) (Ties s b xs best)) (sym tied-is) (record { exact = ties-iff; once = no-two; inOrder = in-order })
 
 -- ---- the theorems
 

@@ -1,5 +1,5 @@
 -- What a search that was not refused says of what it was given.
-use Prim.Native.Nat.{ℕ, zero, suc}
+use Prim.Native.Nat.{ℕ, suc}
 use native.Mathlib.Omega.{arith}
 use mathlib.Core.Path.{_≡_, refl}
 use mathlib.Core.Bool.{Bool, true, false}
@@ -16,6 +16,7 @@ use Rattle.evaluate.specs.declared.Refusal.{Refusal}
 use Rattle.evaluate.specs.Refusals.{at}
 use Rattle.evaluate.specs.Properties.{Matched}
 use Rattle.evaluate.specs.Segments.{Assignment}
+use Rattle.evaluate.proofs.CheckLegal.{at-zero}
 use Rattle.search.specs.declared.SearchBudget.{SearchBudget}
 use Rattle.search.specs.Budget.{budgetRefusal}
 use Rattle.search.specs.Run.{walk}
@@ -35,14 +36,6 @@ unrefused s b xs rooms = go (eqb (searchRefusal s b xs rooms .number) 0) refl
     go : (c : Bool) → eqb (q .number) 0 ≡ c → pick c (replyOf (search (panelOf s) b xs)) (refusedSearch q) .refusal ≡ 0 → q .number ≡ 0
     go true e h = eqb-true (q .number) 0 e
     go false e h = h
-
-first-none : (n : ℕ) (q : Refusal) → at n 0 q .number ≡ 0 → n ≡ 0
-first-none zero q h = refl
-first-none (suc n) q h = h
-
-rest-none : (n : ℕ) (q : Refusal) → at n 0 q .number ≡ 0 → q .number ≡ 0
-rest-none zero q h = h
-rest-none (suc n) q h = absurd (omega arith)
 
 finite-or : (t : Bool) (n : ℕ) (q : Refusal) → finiteOr15 t n q .number ≡ 0 → t ≡ true
 finite-or true n q h = refl
@@ -70,11 +63,7 @@ unfolding searchRefusal evaluationRefusal walked walk
 none-refuses s b xs rooms none =
     let byRooms : ℕ = roomsRefusal (panelOf s) b (length (rooms .frames)) (length (rooms .kept)) (length (rooms .scores)) in
     let late : Refusal = evaluationRefusal (panelOf s) b xs fresh in
-    let p2 = rest-none (panelRefusal s) (at (budgetRefusal b) 0 (at byRooms 0 late)) none in
-    let p3 = rest-none (budgetRefusal b) (at byRooms 0 late) p2 in
-    record {
-      panel = first-none (panelRefusal s) (at (budgetRefusal b) 0 (at byRooms 0 late)) none;
-      budget = first-none (budgetRefusal b) (at byRooms 0 late) p2;
-      roomy = first-none byRooms late p3;
-      scored = all-finite 1 (handedOver s b) xs (rest-none byRooms late p3);
-    }
+    let (p, q) = at-zero (panelRefusal s) 0 (at (budgetRefusal b) 0 (at byRooms 0 late)) none in
+    let (u, v) = at-zero (budgetRefusal b) 0 (at byRooms 0 late) q in
+    let (w, x) = at-zero byRooms 0 late v in
+    record { panel = p; budget = u; roomy = w; scored = all-finite 1 (handedOver s b) xs x }

@@ -2,8 +2,8 @@
 -- per family and after them each legal assignment once.
 use Prim.Native.Nat.{ℕ, zero, suc, _+_, _<_}
 use native.Mathlib.Omega.{arith}
-use mathlib.Core.Path.{sym, subst}
-use mathlib.Core.Logic.{⊎-elim}
+use mathlib.Core.Path.{_≡_, sym, subst}
+use mathlib.Core.Logic.{⊎-elim, _↔_}
 use mathlib.Core.List.{List, List·Memᴰ, List·Memᴰ·not-nil, List·Memᴰ·cases-cons, List·Memᴰ·append-cases}
 use lib.ListN.{length}
 use Rattle.ground.specs.Lists.{numbersFrom}
@@ -11,32 +11,43 @@ use Rattle.image.specs.Panel.{panelOf}
 use Rattle.evaluate.specs.Segments.{Assignment, nativeOf}
 use Rattle.evaluate.specs.Legal.{Legal}
 use Rattle.evaluate.proofs.Native.{native-legal}
-use Rattle.search.specs.Run.{Walk, nativesOf}
+use Rattle.search.specs.declared.SearchBudget.{SearchBudget}
+use Rattle.search.specs.Budget.{budgetRefusal}
+use Rattle.search.specs.Run.{Walk, exhausted, walk, nativesOf, Unbudgeted, Suffices}
 use Rattle.evaluate.proofs.Lists.{mem-map}
 use Rattle.enumeration.proofs.Accepted.{accepted-unbudgeted, accepted-found, found-out, found-legal, found-once, found-in-order}
 use Rattle.enumeration.proofs.Suffice.{ends-iff, ends-as}
-use Rattle.certificate.specs.Terms.{PanelAccepted, NativesThenLegal}
+use Rattle.certificate.specs.Terms.{PanelAccepted, NativesThenLegal, handedOver}
 use Rattle.certificate.specs.Demand3.{WalkEnds, WholeWalk, ExhaustedWhenEnough, AllEvaluated}
-use Rattle.certificate.proofs.Reply.{some-frontier, admitted-passes, exhausted-iff}
+use Rattle.certificate.proofs.Reply.{some-evaluations, some-frontier, admitted-passes, exhausted-iff}
 
 pub walk-ends : WalkEnds
 walk-ends = accepted-unbudgeted
-
-pub exhausted-when-enough : ExhaustedWhenEnough
-exhausted-when-enough s b xs rooms given u =
-    let i = exhausted-iff s b xs rooms (admitted-passes s b xs rooms given) in
-    let j = ends-iff (panelOf s) b (given .families) (some-frontier b (given .budget)) u in
-    (λ h. j .0 (i .0 h), λ h. i .1 (j .1 h))
 
 pub whole-walk : WholeWalk
 whole-walk s e u =
     record { found = accepted-found s e; first = found-out s e u; legal = found-legal s e; once = found-once s e; inOrder = found-in-order s e }
 
+-- ---- of a walk whose budget is accepted, with a family or without
+
+module _ (s : List ℕ) (b : SearchBudget) (panel : PanelAccepted s) (budget : budgetRefusal b ≡ 0) where
+  pub ends-by-itself : (u : Unbudgeted (panelOf s)) → (walk (panelOf s) b .ending ≡ exhausted) ↔ Suffices (panelOf s) b u
+  ends-by-itself u = ends-iff (panelOf s) b (some-evaluations b budget) (some-frontier b budget) u
+
+  pub handed-whole : walk (panelOf s) b .ending ≡ exhausted → NativesThenLegal (panelOf s) (handedOver s b)
+  handed-whole q =
+      let u = walk-ends s panel in
+      let same = ends-as (panelOf s) b (some-evaluations b budget) (some-frontier b budget) u q in
+      subst (λ (w : Walk). NativesThenLegal (panelOf s) (w .out)) (sym same) (whole-walk s panel u)
+
+pub exhausted-when-enough : ExhaustedWhenEnough
+exhausted-when-enough s b xs rooms given u =
+    let i = exhausted-iff s b xs rooms (admitted-passes s b xs rooms given) in
+    let j = ends-by-itself s b (given .panel) (given .budget) u in
+    (λ h. j .0 (i .0 h), λ h. i .1 (j .1 h))
+
 pub all-evaluated-once : AllEvaluated
-all-evaluated-once s b xs rooms given h =
-    let u = walk-ends s (given .panel) in
-    let same = ends-as (panelOf s) b (given .families) (some-frontier b (given .budget)) u (exhausted-iff s b xs rooms (admitted-passes s b xs rooms given) .0 h) in
-    subst (λ (w : Walk). NativesThenLegal (panelOf s) (w .out)) (sym same) (whole-walk s (given .panel) u)
+all-evaluated-once s b xs rooms given h = handed-whole s b (given .panel) (given .budget) (exhausted-iff s b xs rooms (admitted-passes s b xs rooms given) .0 h)
 
 -- ---- whatever was handed over is legal
 

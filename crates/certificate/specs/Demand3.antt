@@ -1,12 +1,12 @@
--- Demand 3, statement by statement. Each is a type; its proof stands elsewhere. The words are those of Terms, and behind them 01's.
+-- Demand 3, statement by statement: what stands behind the sentence (Sentence.antt). Each is a type; its proof stands elsewhere. The words are
+-- those of Terms, and behind them 01's.
 use Prim.Native.Nat.{ℕ}
 use mathlib.Core.Path.{_≡_}
 use mathlib.Core.Logic.{_↔_}
-use mathlib.Core.List.{List, [], _∷_, map, List·Memᴰ}
+use mathlib.Core.List.{List, [], _∷_}
 use lib.ListN.{length}
 use lib.Ieee.{Float}
 use Rattle.image.specs.Panel.{panelOf}
-use Rattle.evaluate.specs.Properties.{Pairs}
 use Rattle.evaluate.specs.Segments.{Assignment, normalForm, flat}
 use Rattle.evaluate.specs.Legal.{Legal, SoundSpans}
 use Rattle.evaluate.specs.Check.{checkAnswer, over}
@@ -16,7 +16,7 @@ use Rattle.search.specs.Run.{Unbudgeted, Suffices}
 use Rattle.search.specs.Counters.{statusNumber}
 use Rattle.search.specs.Keep.{Evaluated}
 use Rattle.search.specs.Answers.{Rooms, ListRooms, searchAnswer, listAnswer, listRooms, written}
-use Rattle.certificate.specs.Terms.{PanelAccepted, Within, Admitted, Exhausted, handedOver, keptBy, Scores, NativesThenLegal, Least, Ties, NoTwo, Earlier, assignmentOf}
+use Rattle.certificate.specs.Terms.{PanelAccepted, Within, Admitted, Exhausted, handedOver, keptBy, Scores, NativesThenLegal, Least, Ties, Complete, assignmentOf}
 
 -- The check accepts an assignment exactly when its spans are sound and its normal form is legal.
 abbrev pub CheckIsLegality : Type 0
@@ -58,10 +58,8 @@ IncumbentIsLeast =
 
 -- If besides nothing was discarded, the tied list holds exactly the legal assignments within the tie width of the incumbent, each once,
 -- in the order in which they were first handed over.
-pub record TiedAre (s : List ℕ) (b : SearchBudget) (xs : List Float) (i : Evaluated) : Type 0 where
-  pub exact : (e : Evaluated) → List·Memᴰ e (keptBy s b xs .tied) ↔ Ties s b xs i e
-  pub once : NoTwo (map assignmentOf (keptBy s b xs .tied))
-  pub inOrder : Pairs (Earlier (handedOver s b)) (map assignmentOf (keptBy s b xs .tied))
+abbrev pub TiedAre : List ℕ → SearchBudget → List Float → Evaluated → Type 0
+TiedAre s b xs i = Complete assignmentOf (handedOver s b) (Ties s b xs i) (keptBy s b xs .tied)
 
 abbrev pub TiedAreAll : Type 0
 TiedAreAll =

@@ -1,12 +1,12 @@
 -- The proved examples P1 to P11 (01, "Proved examples"), in one table, on panel E's own bytes, with budgets and scores as doubles.
-use Prim.Native.Nat.{ℕ, _+_}
+use Prim.Native.Nat.{ℕ, _+_, _*_}
 use native.Mathlib.Omega.{arith}
 use mathlib.Core.Path.{_≡_, refl, ap, _∙_}
 use mathlib.Core.Bool.{Bool, true, false, _&&_}
 use mathlib.Core.List.{List, [], _∷_, _++_, map}
 use lib.Dec.{eqb}
 use borrow.Author.Tests.{ne-eqb}
-use lib.ListN.{take, drop, set, replicate}
+use lib.ListN.{length, take, drop, set, replicate}
 use lib.Ieee as Ieee
 use lib.Ieee.{Float, binary64}
 use Rattle.ground.specs.Lists.{pick, each, split, sum, all, any, count, keep, after, rising, numbersFrom, distinct}
@@ -24,7 +24,7 @@ use Rattle.graph.specs.Check.{portsChecked, later, checked}
 use Rattle.evaluate.specs.declared.Segment.{Segment}
 use Rattle.graph.specs.PanelE.{panelE}
 use Rattle.graph.specs.Check.{panelRefusal}
-use Rattle.evaluate.specs.Segments.{Assignment, joining, normalize, overlap}
+use Rattle.evaluate.specs.Segments.{Assignment, flat, joining, normalize, overlap}
 use Rattle.storage.specs.Records.{sameTurn}
 use Rattle.graph.specs.Lookups.{portsAt, bucketLo, bucketHi}
 use Rattle.evaluate.specs.Words.{encode}
@@ -61,6 +61,13 @@ budget w e f o t = record { «max_work» = w; «max_evaluations» = e; «max_fro
 abbrev pub scores : List Float
 scores = map double (five ∷ five ∷ four ∷ [])
 
+-- 0.0, -0.0, 4.0: the zeros are equal as doubles are
+abbrev pub minusZero : ℕ
+minusZero = 0x8000000000000000
+
+abbrev pub zeros : List Float
+zeros = map double (0 ∷ minusZero ∷ four ∷ [])
+
 -- the program's rooms: those for max_frontier 32, max_optima 16, P 8
 abbrev pub rooms : Rooms
 rooms = record { frames = replicate 330 0; kept = replicate 2484 0; scores = replicate 17 (double 0) }
@@ -72,36 +79,48 @@ fwd l a b = record { source = l; start = a; end = b; reverse = false }
 abbrev pub rev : ℕ → ℕ → ℕ → Segment
 rev l a b = record { source = l; start = a; end = b; reverse = true }
 
--- panel E with a second family, lane 1
+-- panel E with families of one path each, on these lanes
 abbrev pub word : ℕ → List ℕ
 word n = n ∷ replicate 7 0
 
-unfoldable pub panelE2 : List ℕ
-panelE2 =
-    let e = set (set (set (set (set panelE 16 2) 24 2) 56 144) 64 160) 72 236 in
-    take 136 e ++ (word 1 ++ (take 8 (drop 136 e) ++ (word 1 ++ drop 144 e)))
+abbrev withFamilies : List ℕ → List ℕ
+withFamilies lanes =
+    let n = length lanes in
+    let e = set (set (set (set (set panelE 16 n) 24 n) 56 (128 + 8 * n)) 64 (128 + 16 * n)) 72 (204 + 16 * n) in
+    take 128 e ++ (flat (map (λ lane. word 1) lanes) ++ (flat (map word lanes) ++ drop 144 e))
 
--- what a panel answers
+-- with no family, with a second one, lane 1, and with a third, lane 0 again
+unfoldable pub panelE0 : List ℕ
+panelE0 = withFamilies []
+
+unfoldable pub panelE2 : List ℕ
+panelE2 = withFamilies (0 ∷ 1 ∷ [])
+
+unfoldable pub panelE3 : List ℕ
+panelE3 = withFamilies (0 ∷ 1 ∷ 0 ∷ [])
+
+-- what a panel answers, with these scores
 pub record Answers : Type 0 where
   pub bucket : List ℕ → List ℕ
   pub answer : SearchBudget → SearchReply
   pub left : SearchBudget → Rooms
   pub kept : SearchBudget → Kept Evaluated
   pub handed : SearchBudget → List Assignment
-  -- what it keeps with other scores
-  pub keeps : List Float → SearchBudget → Kept Evaluated
 
-unfoldable pub on : List ℕ → Answers
+unfoldable pub answersTo : List ℕ → List Float → Answers
 unfolding little number each split sum all any count keep after rising numbersFrom distinct portOf wordOrder portOrder headerOf sound2 sound3 opened entryOf entries counts pathCounts paths lanePorts hub portsOf startOf families pathsOf zipLanes panelBy panelOf countOk names noTwice sound5a sound5b sound5 lengthOk sound4 letter soundPlace soundRecord soundRecords placeOf placeLt recordLt hubRising laneRising lanesRising samePort listed sound8 from ownRow ownRows sound6 sound7 portsChecked later checked panelE panelRefusal joining portsAt standsAt encode widthOk budgetOk budgetInBounds budgetRefusal enter terminalTask memberTask portUnit hubUnit unitOf units run seeds seeded afterSeeding walkFrom walk mostSwitches tallyOf tiesTo lowered added keepOne keepAll sameList evaluated scoresRefusal walked evaluationRefusal keptOf searchedAs searchFrom search stackWords framesLeft mostPaths slotWidth keptLeft keptScoresLeft roomsRefusal leftIn searchRefusal replyOf searchAnswer roomsAfter searchRooms bucketOf wordBelow wordUpTo Ieee.lt Ieee.le Ieee.sub Ieee.ofBits
-on s =
+answersTo s xs =
     record {
       bucket = λ w. bucketLo (panelOf s) w ∷ bucketHi (panelOf s) w ∷ [];
-      answer = λ b. searchAnswer s b scores rooms;
-      left = λ b. searchRooms s b scores rooms;
-      kept = λ b. search (panelOf s) b scores .state .kept;
+      answer = λ b. searchAnswer s b xs rooms;
+      left = λ b. searchRooms s b xs rooms;
+      kept = λ b. search (panelOf s) b xs .state .kept;
       handed = λ b. walk (panelOf s) b .walk .out;
-      keeps = λ xs b. search (panelOf s) b xs .state .kept;
     }
+
+-- with 5, 5, 4
+abbrev pub on : List ℕ → Answers
+on s = answersTo s scores
 
 -- the bucket of a word of two letters on panel E
 abbrev pub bucket : ℕ → ℕ → List ℕ
@@ -179,7 +198,7 @@ pub record Table : Type 0 where
   pub p11 : outcome panelE2 (budget 1 1 32 8 0) ≡ 0 ∷ 4 ∷ 1 ∷ 1 ∷ 0 ∷ 0 ∷ 0 ∷ 0 ∷ []
 
 pub table : Table
-unfolding on keep portsAt standsAt joining encode panelE panelE2 Ieee.ofBits
+unfolding answersTo keep portsAt standsAt joining encode panelE panelE2 Ieee.ofBits
 table =
     record {
       p1 = refl;

@@ -9,7 +9,7 @@ use Rattle.evaluate.specs.Words.{encode}
 use Rattle.graph.specs.PanelE.{panelE}
 use Rattle.search.specs.declared.SearchBudget.{SearchBudget}
 use Rattle.search.specs.Keep.{Evaluated}
-use Rattle.certificate.specs.Examples.{double, five, four, one, budget, panelE2, on, tiedOf, nativeWords, mosaicWords}
+use Rattle.certificate.specs.Examples.{double, five, four, one, budget, panelE2, answersTo, on, tiedOf, nativeWords, mosaicWords}
 
 -- what is handed over, as words
 abbrev handedOn : List ℕ → SearchBudget → List (List ℕ)
@@ -77,7 +77,7 @@ pub record SideBySide : Type 0 where
   pub p11 : handedOn panelE2 (budget 1 1 32 8 0) ∷ handedOn panelE2 (budget 100000 2 32 8 0) ∷ handedOn panelE2 (budget 100000 3 32 8 0) ∷ []
       ≡ (nativeWords ∷ []) ∷ (nativeWords ∷ otherNative ∷ []) ∷ (nativeWords ∷ otherNative ∷ nativeWords ∷ []) ∷ []
   -- an equal score replaces no incumbent: with 5, 5, 5 it stays the native
-  pub equal : shown (on panelE .keeps fives (budget 100000 2 32 8 0) .best) ∷ shown (on panelE .keeps fives (budget 100000 4 32 8 0) .best) ∷ []
+  pub equal : shown (answersTo panelE fives .kept (budget 100000 2 32 8 0) .best) ∷ shown (answersTo panelE fives .kept (budget 100000 4 32 8 0) .best) ∷ []
       ≡ (nativeWords ∷ []) ∷ (nativeWords ∷ []) ∷ []
   -- tie widths of 0.0 and -0.0 tie the same, one of 1.0 does not
   pub zeros : tiedOf (budget 21 1000 32 8 0) ∷ tiedOf (budget 21 1000 32 8 0x8000000000000000) ∷ tiedOf (budget 21 1000 32 8 one) ∷ []
@@ -89,8 +89,8 @@ pub record SideBySide : Type 0 where
   -- not promised: that the tied list of a run that was stopped is part of the larger run's (P9: the native, then the mosaic)
   pub ties : tiedOf (budget 100000 1000 2 8 0) ∷ tiedOf (budget 100000 1000 3 8 0) ∷ [] ≡ (nativeWords ∷ []) ∷ (mosaicWords ∷ []) ∷ []
   -- not promised: that it is part of it where max_optima alone is larger, unless equal assignments have equal scores
-  pub two-scores : shown (on panelE2 .keeps unequal (budget 100000 1000 32 1 one) .tied)
-      ∷ shown (on panelE2 .keeps unequal (budget 100000 1000 32 2 one) .tied) ∷ []
+  pub two-scores : shown (answersTo panelE2 unequal .kept (budget 100000 1000 32 1 one) .tied)
+      ∷ shown (answersTo panelE2 unequal .kept (budget 100000 1000 32 2 one) .tied) ∷ []
       ≡ (otherNative ∷ []) ∷ (otherMosaic ∷ []) ∷ []
   -- not promised: that a run which was stopped with nothing discarded discards nothing under a larger budget
   pub mark : marks (budget 100000 2 32 1 one) ∷ marks (budget 100000 4 32 1 one) ∷ [] ≡ (4 ∷ 0 ∷ []) ∷ (2 ∷ 1 ∷ []) ∷ []
@@ -100,7 +100,7 @@ pub record SideBySide : Type 0 where
   pub smaller : handedOn panelE (budget 100000 1000 2 8 0) ∷ handedOn panelE (budget 1 1000 32 8 0) ∷ [] ≡ (nativeWords ∷ nativeWords ∷ []) ∷ (nativeWords ∷ []) ∷ []
 
 pub side-by-side : SideBySide
-unfolding on panelE panelE2 encode Ieee.ofBits
+unfolding answersTo panelE panelE2 encode Ieee.ofBits
 side-by-side =
     record {
       p6 = refl;

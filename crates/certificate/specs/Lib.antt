@@ -1,6 +1,9 @@
 pub mod Terms
+pub mod Slots
+pub mod Sentence
+pub mod Calls
 pub mod Demand3
-pub mod Told
 pub mod Larger
+pub mod Raised
 pub mod Examples
 pub mod LargerExamples

@@ -108,6 +108,13 @@ pub record Earlier (out : List Assignment) (a c : Assignment) : Type 0 where
   pub split : out ≡ before ++ (a ∷ after)
   pub none : List·Memᴰ c before → ⊥
 
+-- a complete list: it holds exactly what belongs to it, no assignment twice, in the order in which they were first handed over; `of` tells
+-- the assignment of each
+pub record Complete {A : Type 0} (of : A → Assignment) (out : List Assignment) (Belongs : A → Type 0) (l : List A) : Type 0 where
+  pub exact : (a : A) → List·Memᴰ a l ↔ Belongs a
+  pub once : Pairs (λ a c. of a ≡ of c → ⊥) l
+  pub inOrder : Pairs (λ a c. Earlier out (of a) (of c)) l
+
 -- the assignment of an evaluation
 abbrev pub assignmentOf : Evaluated → Assignment
 assignmentOf e = e .assignment

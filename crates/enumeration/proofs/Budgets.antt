@@ -47,7 +47,7 @@ ended-by e w W h q = short-ends e h (ap (λ (s : Phase). stopped s .ending) q)
 going-ended : (w : Walk) (e : Ending) (W : Walk) → going w ≡ ended e W → ⊥
 going-ended w e W q = let z : _≡_ {A = ℕ} 0 1 = cc in omega arith
 
-deepest-ended : (p : Panel) (n : ℕ) (e : Ending) (w : Walk) → deepest p n (ended e w) ≡ length (w .stack)
+pub deepest-ended : (p : Panel) (n : ℕ) (e : Ending) (w : Walk) → deepest p n (ended e w) ≡ length (w .stack)
 unfolding deepest
 deepest-ended p zero e w = refl
 deepest-ended p (suc n) e w = refl

@@ -14,9 +14,9 @@ use Rattle.ground.proofs.ListLaws.{numbers-length}
 use Rattle.image.specs.Panel.{Panel}
 use Rattle.evaluate.specs.Segments.{Assignment, nativeOf}
 use Rattle.search.specs.declared.SearchBudget.{SearchBudget}
-use Rattle.search.specs.Run.{Walk, Walked, Ending, exhausted, onWork, onEvaluation, Phase, going, ended, Limits, limitsOf, unlimited, root, stacked, units, stopped, run, seeds, seededWith, seeded, short, afterSeeding, walkFrom, untouched, walk, nativesOf, outset, Unbudgeted, deepest, Suffices}
+use Rattle.search.specs.Run.{Walk, Walked, Ending, exhausted, onWork, onEvaluation, Phase, going, ended, Limits, limitsOf, unlimited, root, stacked, begin, units, stopped, run, seeds, seededWith, seeded, short, afterSeeding, walkFrom, untouched, walk, nativesOf, outset, Unbudgeted, deepest, Suffices}
 use Rattle.enumeration.proofs.Whole.{ended-stays, units-add}
-use Rattle.enumeration.proofs.Budgets.{Live, walkIn, grows, enough, Kept, honest}
+use Rattle.enumeration.proofs.Budgets.{Live, walkIn, deepest-ended, grows, enough, Kept, honest}
 
 -- ---- seeding
 
@@ -75,19 +75,9 @@ short-not b w = go (leb (b .«max_evaluations») (w .natives))
     go true q = let z : _≡_ {A = ℕ} 0 1 = cc in omega arith
     go false q = let z : _≡_ {A = ℕ} 0 1 = cc in omega arith
 
-module _ (p : Panel) (b : SearchBudget) (some : 0 < length (p .families)) (room : 0 < b .«max_frontier») where
-  abbrev start : Walk
-  start = seededWith untouched (nativesOf p)
-
-  abbrev first : Walk
-  first = stacked start (root p 0 ∷ [])
-
+module _ (p : Panel) (b : SearchBudget) where
   left : ℕ
   left = b .«max_work» - (0 + length (nativesOf p))
-
-  outset-is : outset p ≡ going first
-  unfolding outset
-  outset-is = rw (lt-ltb 0 (length (p .families)) some)
 
   -- with all natives seeded, the walk runs from its outset
   runs : given p b ≡ nativesOf p → walk p b ≡ stopped (units p (limitsOf b) left (outset p))
@@ -97,9 +87,49 @@ module _ (p : Panel) (b : SearchBudget) (some : 0 < length (p .families)) (room 
       ∙ ap (λ (l : List Assignment). afterSeeding p b [] (seededWith untouched l)) e
       ∙ rw (eq-eqb (0 + length (nativesOf p)) (length (p .families)) (let n = natives-length p in omega arith))
 
+-- ---- without a family there is nothing to walk
+
+module _ (p : Panel) (none : length (p .families) ≡ 0) where
+  no-natives : nativesOf p ≡ []
+  unfolding nativesOf numbersFrom
+  no-natives = ap (λ (n : ℕ). map (nativeOf p) (numbersFrom 0 n)) none
+
+  outset-none : outset p ≡ ended exhausted untouched
+  unfolding outset
+  outset-none = ap (λ (l : List Assignment). begin p (seededWith untouched l)) no-natives ∙ rw none
+
+  walk-none : (b : SearchBudget) → walk p b ≡ record { ending = exhausted; walk = untouched }
+  walk-none b =
+      runs p b (given-all p b (omega arith) (omega arith))
+      ∙ ap (λ (s : Phase). stopped (units p (limitsOf b) (left p b) s)) outset-none
+      ∙ ap stopped (ended-stays p (limitsOf b) (left p b) exhausted untouched)
+
+  final-none : (u : Unbudgeted p) → u .final ≡ untouched
+  final-none u = ap walkIn (sym (u .ends) ∙ ap (units p unlimited (u .steps)) outset-none ∙ ended-stays p unlimited (u .steps) exhausted untouched)
+
+  suffices-none : (b : SearchBudget) (u : Unbudgeted p) → 0 < b .«max_evaluations» → Suffices p b u
+  suffices-none b u some =
+      let w : u .final .work ≡ 0 = ap (λ (v : Walk). v .work) (final-none u) in
+      let e : u .final .evaluations ≡ 0 = ap (λ (v : Walk). v .evaluations) (final-none u) in
+      let d : deepest p (u .steps) (outset p) ≡ 0 = ap (deepest p (u .steps)) outset-none ∙ deepest-ended p (u .steps) exhausted untouched in
+      record { work = omega arith; evaluations = omega arith; frontier = omega arith }
+
+-- ---- with one
+
+module _ (p : Panel) (b : SearchBudget) (some : 0 < length (p .families)) (room : 0 < b .«max_frontier») where
+  abbrev start : Walk
+  start = seededWith untouched (nativesOf p)
+
+  abbrev first : Walk
+  first = stacked start (root p 0 ∷ [])
+
+  outset-is : outset p ≡ going first
+  unfolding outset
+  outset-is = rw (lt-ltb 0 (length (p .families)) some)
+
   module _ (u : Unbudgeted p) where
     -- budgets that suffice let the walk end as the unbudgeted one does
-    pub sufficient : Suffices p b u → walk p b ≡ record { ending = exhausted; walk = u .final }
+    sufficient : Suffices p b u → walk p b ≡ record { ending = exhausted; walk = u .final }
     unfolding left
     sufficient h =
         let g = grows p (u .steps) (outset p) live in
@@ -112,8 +142,8 @@ module _ (p : Panel) (b : SearchBudget) (some : 0 < length (p .families)) (room 
         let c = g .1 in
         let i = h .work in
         let j = h .evaluations in
-        runs (given-all p b (omega arith) (omega arith))
-        ∙ ap stopped (enough p b (u .steps) left (outset p) (u .final) live (u .ends) (omega arith) (h .evaluations) (h .frontier))
+        runs p b (given-all p b (omega arith) (omega arith))
+        ∙ ap stopped (enough p b (u .steps) (left p b) (outset p) (u .final) live (u .ends) (omega arith) (h .evaluations) (h .frontier))
       where
         live : Live (outset p)
         live = subst Live (sym outset-is) (omega arith)
@@ -127,9 +157,9 @@ module _ (p : Panel) (b : SearchBudget) (some : 0 < length (p .families)) (room 
     unfolding left afterSeeding
     whole q = go (eqb (0 + length (given p b)) (length (p .families))) refl (ap (λ (r : Walked). r .ending) (sym (seeded-walk p b)) ∙ q)
       where
-        within : length (p .families) ≤ b .«max_work» → units p unlimited left (outset p) ≡ ended exhausted (walk p b .walk) → Kept p b left first (walk p b .walk) → Whole
+        within : length (p .families) ≤ b .«max_work» → units p unlimited (left p b) (outset p) ≡ ended exhausted (walk p b .walk) → Kept p b (left p b) first (walk p b .walk) → Whole
         within few e k =
-            let one : walk p b .walk ≡ u .final = one-end p unlimited left (u .steps) (outset p) (walk p b .walk) (u .final) e (u .ends) in
+            let one : walk p b .walk ≡ u .final = one-end p unlimited (left p b) (u .steps) (outset p) (walk p b .walk) (u .final) e (u .ends) in
             let w : walk p b .walk .work ≡ u .final .work = ap (λ (v : Walk). v .work) one in
             let n = natives-length p in
             let i = k .work in
@@ -144,13 +174,13 @@ module _ (p : Panel) (b : SearchBudget) (some : 0 < length (p .families)) (room 
 
         ran : given p b ≡ nativesOf p → length (p .families) ≤ b .«max_work» → Whole
         ran e few =
-            let r = runs e in
-            let ends : units p (limitsOf b) left (outset p) ≡ ended exhausted (stopped (units p (limitsOf b) left (outset p)) .walk)
-            = stopped-is (units p (limitsOf b) left (outset p)) (ap (λ (x : Walked). x .ending) (sym r) ∙ q) in
-            let ends′ : units p (limitsOf b) left (going first) ≡ ended exhausted (walk p b .walk)
-            = ap (units p (limitsOf b) left) (sym outset-is) ∙ ends ∙ ap (λ (x : Walked). ended exhausted (x .walk)) (sym r) in
-            let k = honest p b left first (walk p b .walk) (omega arith) room ends′ in
-            within few (ap (units p unlimited left) outset-is ∙ k .same) k
+            let r = runs p b e in
+            let ends : units p (limitsOf b) (left p b) (outset p) ≡ ended exhausted (stopped (units p (limitsOf b) (left p b) (outset p)) .walk)
+            = stopped-is (units p (limitsOf b) (left p b) (outset p)) (ap (λ (x : Walked). x .ending) (sym r) ∙ q) in
+            let ends′ : units p (limitsOf b) (left p b) (going first) ≡ ended exhausted (walk p b .walk)
+            = ap (units p (limitsOf b) (left p b)) (sym outset-is) ∙ ends ∙ ap (λ (x : Walked). ended exhausted (x .walk)) (sym r) in
+            let k = honest p b (left p b) first (walk p b .walk) (omega arith) room ends′ in
+            within few (ap (units p unlimited (left p b)) outset-is ∙ k .same) k
 
         go : (t : Bool) → eqb (0 + length (given p b)) (length (p .families)) ≡ t → afterSeeding p b [] (seededWith untouched (given p b)) .ending ≡ exhausted → Whole
         go true e z =
@@ -159,9 +189,20 @@ module _ (p : Panel) (b : SearchBudget) (some : 0 < length (p .families)) (room 
             ran (given-all p b (f .0) (f .1)) (f .0)
         go false e z = absurd (short-not b (seededWith untouched (given p b)) (rw e at z))
 
-    -- BOTH WAYS
-    pub ends-iff : (walk p b .ending ≡ exhausted) ↔ Suffices p b u
-    ends-iff = (λ q. whole q .enough, λ h. ap (λ (r : Walked). r .ending) (sufficient h))
+-- BOTH WAYS, with a family or without
+module _ (p : Panel) (b : SearchBudget) (some : 0 < b .«max_evaluations») (room : 0 < b .«max_frontier») (u : Unbudgeted p) where
+  pub ends-iff : (walk p b .ending ≡ exhausted) ↔ Suffices p b u
+  ends-iff = go (length (p .families)) refl
+    where
+      go : (n : ℕ) → length (p .families) ≡ n → (walk p b .ending ≡ exhausted) ↔ Suffices p b u
+      go zero e = (λ q. suffices-none p e b u some, λ h. ap (λ (r : Walked). r .ending) (walk-none p e b))
+      go (suc n) e =
+          let family : 0 < length (p .families) = omega arith in
+          (λ q. whole p b family room u q .enough, λ h. ap (λ (r : Walked). r .ending) (sufficient p b family room u h))
 
-    pub ends-as : walk p b .ending ≡ exhausted → walk p b .walk ≡ u .final
-    ends-as q = whole q .same
+  pub ends-as : walk p b .ending ≡ exhausted → walk p b .walk ≡ u .final
+  ends-as q = go (length (p .families)) refl
+    where
+      go : (n : ℕ) → length (p .families) ≡ n → walk p b .walk ≡ u .final
+      go zero e = ap (λ (r : Walked). r .walk) (walk-none p e b) ∙ sym (final-none p e u)
+      go (suc n) e = whole p b (let family : 0 < length (p .families) = omega arith in family) room u q .same

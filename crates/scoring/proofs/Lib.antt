@@ -3,3 +3,5 @@ pub mod Firsts
 pub mod Width
 pub mod Longer
 pub mod Room
+pub mod Alike
+pub mod Tied

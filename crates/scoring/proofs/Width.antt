@@ -1,34 +1,16 @@
 -- Tie widths that are one number tie the same.
 use Prim.Native.Nat.{ℕ}
-use mathlib.Core.Path.{_≡_, refl, sym, ap, _∙_}
-use mathlib.Core.Bool.{Bool, true, false, not, _&&_}
+use mathlib.Core.Path.{_≡_, refl, ap, _∙_}
+use mathlib.Core.Bool.{Bool, true, not, _&&_}
 use mathlib.Core.List.{List, [], _∷_}
-use lib.Dec.{T, ltb}
+use lib.Dec.{ltb}
 use lib.ListN.{length}
 use lib.Ieee as Ieee
-use lib.Ieee.{Float, fin, inf, nan, binary64}
+use lib.Ieee.{Float, binary64}
 use Rattle.ground.specs.Lists.{pick, keep}
 use Rattle.search.specs.Keep.{Kept, lowers, near, tiesTo, has, adding, replaced, lowered, added, keepOne, keepAll}
-use Rattle.doubles.proofs.Order.{is-T, eq→le, le-trans-float, eq→EQ, EQ→eq}
-
-eq-sym : (x y : Float) → T (Ieee.eq x y) → T (Ieee.eq y x)
-unfolding Ieee.eq
-eq-sym nan y h = absurd h
-eq-sym (inf s) nan h = absurd h
-eq-sym (inf true) (inf true) h = h
-eq-sym (inf true) (inf false) h = absurd h
-eq-sym (inf false) (inf true) h = absurd h
-eq-sym (inf false) (inf false) h = h
-eq-sym (inf s) (fin t n d) h = absurd h
-eq-sym (fin s m e) nan h = absurd h
-eq-sym (fin s m e) (inf t) h = absurd h
-eq-sym (fin s m e) (fin t n d) h = EQ→eq t n d s m e (let q = eq→EQ s m e t n d h in sym q)
-
-both-ways : (a b : Bool) → (T a → T b) → (T b → T a) → a ≡ b
-both-ways true true f g = refl
-both-ways true false f g = absurd (f tt)
-both-ways false true f g = absurd (g tt)
-both-ways false false f g = refl
+use Rattle.doubles.proofs.Order.{is-T, eq→le, le-trans-float}
+use Rattle.doubles.proofs.Level.{eq-sym, both-ways}
 
 module _ (w v : Float) (same : Ieee.eq w v ≡ true) where
   le-same : (x : Float) → Ieee.le x w ≡ Ieee.le x v

@@ -1,2 +1,0 @@
-pub mod Sentence
-pub mod Raised
