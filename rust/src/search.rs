@@ -76,8 +76,8 @@ impl Panel<'_> {
     /// Refusals 11, 12 and, for a score that is not finite, 15.
     ///
     /// The walk evaluates a family's native assignment twice, while seeding and on its way, and
-    /// every other one at most once; the second time it gets the score of the first. So equal
-    /// assignments have equal scores, which "certified" asks for.
+    /// every other one at most once; the second time it gets the score of the first. So the scores
+    /// are those of one function of assignments, which "certified" asks for (see [`Status`]).
     pub fn search(
         &self,
         budget: SearchBudget,
@@ -113,8 +113,8 @@ impl Panel<'_> {
 
     /// The walk with score n, from 1, for evaluation n. Refusals 11, 12, 14 and 15.
     ///
-    /// Equal assignments may come with different scores here; "certified" then says nothing
-    /// about them.
+    /// Equal assignments may come with different scores here, other than 0.0 and -0.0; "certified"
+    /// then says nothing.
     pub fn search_with_scores(&self, budget: SearchBudget, scores: &[f64]) -> Result<Sheet, Refusal> {
         let rooms = Rooms::new(self, &budget);
         let mut frames = vec![0; rooms.frames];

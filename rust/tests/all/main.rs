@@ -1,6 +1,7 @@
 //! The crate from outside, over the archive that it is linked to.
 mod bounds;
 mod builder;
+mod certified;
 mod examples;
 mod larger;
 mod letters;

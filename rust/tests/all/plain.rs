@@ -70,7 +70,7 @@ fn family(rng: &mut Rng, lanes: u64, paths: u64) -> Vec<u64> {
 }
 
 /// Few lanes, families of some of them, words from a small pool, half of the ports in reverse.
-fn scattered(rng: &mut Rng) -> Panel<'static> {
+pub fn scattered(rng: &mut Rng) -> Panel<'static> {
     let (k, lanes, length, pool) = (1 + rng.below(3), 1 + rng.below(4), 4 + rng.below(24), 1 + rng.below(4));
     let mut builder = PanelBuilder::new(k as usize);
     add_lanes(&mut builder, lanes, length);
