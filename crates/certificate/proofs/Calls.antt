@@ -6,7 +6,7 @@ use mathlib.Core.Logic.{_↔_}
 use mathlib.Core.Bool.{Bool, true, false}
 use mathlib.Core.List.{List, [], _∷_, _++_, map, head-eq-of-cons-eq, List·Memᴰ, List·Memᴰ·head}
 use lib.Dec.{leb}
-use lib.ListN.{length, take, drop, length-append, length-drop}
+use lib.ListN.{length, take, drop, length-append, length-drop, length-map}
 use lib.Seq.{take-add, drop-drop}
 use borrow.Author.Tests.{leb-true, leb-false, le-leb, ne-eqb, eq-eqb}
 use Rattle.ground.specs.Lists.{pick}
@@ -159,6 +159,7 @@ module _ (s : List ℕ) (b : SearchBudget) (from : ℕ) (lent : ListRooms) (pass
   told =
       record {
         evaluations = evaluations-listed s b from lent passed;
+        count = wrote ∙ ap (λ (l : List (List ℕ)). length l) paged ∙ length-map (page s b from (r .written)) encode;
         words = out-is s b from lent passed ∙ ap (λ (l : List (List ℕ)). over (flat l) (lent .out)) paged;
         many = words-are s b from lent passed ∙ ap (λ (l : List (List ℕ)). length (flat l)) paged;
         left = too-long;

@@ -9,6 +9,7 @@ pub mod Certificate
 pub mod Slots
 pub mod Sentence
 pub mod Calls
+pub mod Sheet
 pub mod Larger
 pub mod LargerListing
 pub mod Raised

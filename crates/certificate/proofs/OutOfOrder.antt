@@ -19,7 +19,7 @@ use Rattle.search.specs.Answers.{searchAnswer}
 use Rattle.graph.specs.PanelE.{panelE}
 use Rattle.certificate.specs.Examples.{double, five, one, budget, rooms, fwd, panelE3, answersTo}
 use Rattle.certificate.specs.Terms.{handedOver, keptBy, Earlier, assignmentOf}
-use Rattle.certificate.specs.Sentence.{ScoredBy, Asked}
+use Rattle.certificate.specs.Sentence.{ScoredBy}
 
 -- 4.5 and 3.5
 abbrev fourAndHalf : ℕ
@@ -66,14 +66,17 @@ handed-3 : handedOver panelE3 two ≡ out
 unfolding answersTo
 handed-3 = shown .handed
 
--- the sentence's premises are met
-scored-3 : ScoredBy h out xs
+-- the sentence's premises are met: the scores are h's, and nothing is refused
+scored-out : ScoredBy h out xs
 unfolding Ieee.ofBits Ieee.eq
-scored-3 = (refl, (refl, (refl, (refl, (refl, (refl, (refl, (refl, (refl, tt)))))))))
+scored-out = (refl, (refl, (refl, (refl, (refl, (refl, (refl, (refl, (refl, tt)))))))))
 
-pub asked-3 : Asked h panelE3 two xs (searchAnswer panelE3 two xs rooms)
+pub scored-3 : ScoredBy h (handedOver panelE3 two) xs
+scored-3 = subst (λ (l : List Assignment). ScoredBy h l xs) (sym handed-3) scored-out
+
+pub passed-3 : searchAnswer panelE3 two xs rooms .refusal ≡ 0
 unfolding answersTo
-asked-3 = record { passed = shown .passed; scored = subst (λ (l : List Assignment). ScoredBy h l xs) (sym handed-3) scored-3 }
+passed-3 = shown .passed
 
 -- it is exhausted, with one discarded
 pub incomplete-3 : searchAnswer panelE3 two xs rooms .status ≡ statusNumber SupportIncomplete

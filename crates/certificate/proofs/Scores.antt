@@ -66,9 +66,9 @@ module _ (s : List ℕ) (b : SearchBudget) (xs : List Float) (rooms : Rooms) (gi
     -- there is one: a family has a native
     some : 0 < length (evaluations s b xs)
     some =
-        let n : length (map assignmentOf (evaluations s b xs)) ≡ length (nativesOf (panelOf s) ++ whole .found) = ap length ((made s b xs (given .scored)) ∙ whole .first) in
+        let n : length (map assignmentOf (evaluations s b xs)) ≡ length (nativesOf (panelOf s) ++ whole .walked) = ap length ((made s b xs (given .scored)) ∙ whole .first) in
         let m : length (map assignmentOf (evaluations s b xs)) ≡ length (evaluations s b xs) = length-map (evaluations s b xs) assignmentOf in
-        let k : length (nativesOf (panelOf s) ++ whole .found) ≡ length (nativesOf (panelOf s)) + length (whole .found) = length-append (nativesOf (panelOf s)) (whole .found) in
+        let k : length (nativesOf (panelOf s) ++ whole .walked) ≡ length (nativesOf (panelOf s)) + length (whole .walked) = length-append (nativesOf (panelOf s)) (whole .walked) in
         let j = natives-length (panelOf s) in
         let i = given .families in
         omega arith

@@ -16,6 +16,7 @@ use Rattle.ground.proofs.Members.{mem-at}
 use Rattle.image.specs.Panel.{panelOf}
 use Rattle.evaluate.specs.Properties.{Matched}
 use Rattle.evaluate.specs.Segments.{Assignment}
+use Rattle.evaluate.specs.Words.{encode}
 use Rattle.evaluate.specs.Legal.{Legal}
 use Rattle.evaluate.proofs.Lists.{mem-map, mem-map-in, each-mem, pairs-through}
 use Rattle.search.specs.declared.SearchBudget.{SearchBudget}
@@ -24,7 +25,7 @@ use Rattle.search.specs.declared.Status.the-variants.{Certified}
 use Rattle.search.specs.Run.{walk}
 use Rattle.search.specs.Counters.{stopOf, statusOf, statusNumber}
 use Rattle.search.specs.Keep.{Kept, nothing, Evaluated, scoreOf, sameAssignment, sameEvaluated, evaluated, near, tiedTo}
-use Rattle.search.specs.Rooms.{slotWidth}
+use Rattle.search.specs.Rooms.{padTo, slotWidth}
 use Rattle.search.specs.Answers.{Rooms, searchRefusal, searchAnswer, searchRooms}
 use Rattle.doubles.proofs.Order.{is-T}
 use Rattle.doubles.proofs.Level.{Level, level, level-eq}
@@ -32,8 +33,7 @@ use Rattle.scoring.proofs.Alike.{matched-length, matched-at, KeptAlike, keep-al
 use Rattle.scoring.proofs.Tied.{Well, kept-well}
 use Rattle.certificate.specs.Terms.{FiniteScore, Admitted, Exhausted, Scores, evaluations, handedOver, keptBy, NativesThenLegal, Least, NoTwo, Earlier, Complete, assignmentOf}
 use Rattle.certificate.specs.Demand3.{TiedAre}
-use Rattle.certificate.specs.Slots.{Holds}
-use Rattle.certificate.specs.Sentence.{ScoredBy, Asked, Tied, Slot, Found, Certificate, Sentence}
+use Rattle.certificate.specs.Sentence.{ScoredBy, Tied, Slot, Found, Certificate, Sentence}
 use Rattle.certificate.proofs.Reply.{admitted-passes, status-of, evaluations-are, exhausted-iff}
 use Rattle.certificate.proofs.Unrefused.{unrefused, Unrefused, none-refuses}
 use Rattle.certificate.proofs.Evaluated.{same-tells, kept-is, tied-evaluated, handed-of}
@@ -96,36 +96,36 @@ pub record Shown (f : Assignment → Float) (s : List ℕ) (b : SearchBudget) (x
   pub is : keptBy s b xs .best ≡ best ∷ []
   pub same : best .assignment ≡ found .incumbent
 
-module _ (f : Assignment → Float) (s : List ℕ) (b : SearchBudget) (xs : List Float) (rooms : Rooms) (asked : Asked f s b xs (searchAnswer s b xs rooms)) where
-  abbrev ys : List Float
-  ys = map f (handedOver s b)
-
+module _ (s : List ℕ) (b : SearchBudget) (xs : List Float) (rooms : Rooms) (passed : searchAnswer s b xs rooms .refusal ≡ 0) where
   abbrev v : ℕ
   v = slotWidth (panelOf s) b
 
   passes : searchRefusal s b xs rooms .number ≡ 0
-  passes = unrefused s b xs rooms (asked .passed)
+  passes = unrefused s b xs rooms passed
 
   fine : Unrefused s b xs rooms
   fine = none-refuses s b xs rooms passes
 
-  own : (a : Assignment) (x : Float) → Scores s b ys a x → x ≡ f a
-  own a x m = own-score f (handedOver s b) (record { assignment = a; score = x }) m
-
   whole : Exhausted (searchAnswer s b xs rooms) → NativesThenLegal (panelOf s) (handedOver s b)
   whole told = handed-whole s b (fine .panel) (fine .budget) (exhausted-iff s b xs rooms passes .0 told)
 
-  -- what is kept is alike
-  alike : KeptAlike Alike (keptBy s b xs) (keptBy s b ys)
-  alike =
-      subst (λ (k : Kept Evaluated). KeptAlike Alike k (keptBy s b ys)) (sym (kept-is s b xs))
-      (subst (KeptAlike Alike _) (sym (kept-is s b ys))
-      (keep-alike scoreOf sameEvaluated Alike (λ d e h. h .1) told-alike (b .«max_optima») (b .«tie_width») (evaluations s b xs) (evaluations s b ys) nothing nothing
-      (own-alike f (handedOver s b) xs (fine .scored) (asked .scored)) (record { best = tt; tied = tt; discarded = refl })))
+  -- ---- where it reports exhaustion, there is a family, and the scores are f's
 
-  -- ---- where there is a family, and it reports exhaustion
+  module _ (told : Exhausted (searchAnswer s b xs rooms)) (family : 0 < length (panelOf s .families)) (f : Assignment → Float) (by-f : ScoredBy f (handedOver s b) xs) where
+    abbrev ys : List Float
+    ys = map f (handedOver s b)
 
-  module _ (told : Exhausted (searchAnswer s b xs rooms)) (family : 0 < length (panelOf s .families)) where
+    own : (a : Assignment) (x : Float) → Scores s b ys a x → x ≡ f a
+    own a x m = own-score f (handedOver s b) (record { assignment = a; score = x }) m
+
+    -- what is kept is alike
+    alike : KeptAlike Alike (keptBy s b xs) (keptBy s b ys)
+    alike =
+        subst (λ (k : Kept Evaluated). KeptAlike Alike k (keptBy s b ys)) (sym (kept-is s b xs))
+        (subst (KeptAlike Alike _) (sym (kept-is s b ys))
+        (keep-alike scoreOf sameEvaluated Alike (λ d e h. h .1) told-alike (b .«max_optima») (b .«tie_width») (evaluations s b xs) (evaluations s b ys) nothing nothing
+        (own-alike f (handedOver s b) xs (fine .scored) by-f) (record { best = tt; tied = tt; discarded = refl })))
+
     given : Admitted s b ys rooms
     given =
         record {
@@ -133,7 +133,7 @@ module _ (f : Assignment → Float) (s : List ℕ) (b : SearchBudget) (xs : List
           budget = fine .budget;
           roomy = fine .roomy;
           families = family;
-          scored = own-finite f (handedOver s b) xs (fine .scored) (asked .scored);
+          scored = own-finite f (handedOver s b) xs (fine .scored) by-f;
           agreed = λ a x y m n. own a x m ∙ sym (own a y n);
         }
 
@@ -228,7 +228,7 @@ module _ (f : Assignment → Float) (s : List ℕ) (b : SearchBudget) (xs : List
         let e : Evaluated = getD (i ∷ tied) n d in
         let same : e .score ≡ f (e .assignment) = own-all e (mem-at d (i ∷ tied) n lt) in
         record {
-          words = subst (Holds v (searchRooms s b xs rooms) n) (k .0) (l .words);
+          words = l .words ∙ ap (λ (a : Assignment). padTo v (encode a)) (k .0);
           score = ap (λ (y : Float). Ieee.eq y (f (e .assignment))) (l .score) ∙ ap (Ieee.eq x) (sym same) ∙ level-eq x (e .score) (k .1);
         }
 
@@ -250,8 +250,8 @@ module _ (f : Assignment → Float) (s : List ℕ) (b : SearchBudget) (xs : List
             least = λ a l. ap (Ieee.lt (f a)) (sym own-i) ∙ best .2 .none a (f a) l (scored a l);
             within = within;
             once = once;
-            complete = complete;
           };
+          complete = complete;
         }
 
     -- the incumbent is what the search keeps as its best
@@ -259,7 +259,7 @@ module _ (f : Assignment → Float) (s : List ℕ) (b : SearchBudget) (xs : List
     unfolding found
     shown = record { found = found; best = one .0; is = one .1; same = one .2 .0 }
 
-  certificate : Certificate f s b (searchRooms s b xs rooms) (searchAnswer s b xs rooms)
+  certificate : Certificate s b xs (searchRooms s b xs rooms) (searchAnswer s b xs rooms)
   certificate =
       record {
         ends = demand3 .ends s (fine .panel);
@@ -274,7 +274,7 @@ module _ (f : Assignment → Float) (s : List ℕ) (b : SearchBudget) (xs : List
 
 -- THE SENTENCE
 pub sentence : (s : List ℕ) (b : SearchBudget) (xs : List Float) (rooms : Rooms) → Sentence s b xs (searchRooms s b xs rooms) (searchAnswer s b xs rooms)
-sentence s b xs rooms f asked = certificate f s b xs rooms asked
+sentence = certificate
 
 -- of any reply and rooms that are the search's
 pub sentence-of : (s : List ℕ) (b : SearchBudget) (xs : List Float) (rooms after : Rooms) (r : SearchReply) → r ≡ searchAnswer s b xs rooms → after ≡ searchRooms s b xs rooms

@@ -2,10 +2,10 @@
 use Prim.Native.Nat.{ℕ, zero, suc, _+_, _*_, _-_, _≤_, _<_}
 use native.Mathlib.Omega.{arith}
 use native.Mathlib.Nat.{not-suc-le-zero, zero-mul, suc-mul}
-use mathlib.Core.Path.{_≡_, refl, sym, ap, _∙_, subst}
+use mathlib.Core.Path.{_≡_, refl, sym, ap, _∙_}
 use mathlib.Core.List.{List, [], _∷_, _++_, map, append-assoc, append-nil, List·Memᴰ}
-use lib.ListN.{length, drop, getD, replicate}
-use lib.Seq.{drop-drop, drop-at}
+use lib.ListN.{length, take, drop, getD, replicate}
+use lib.Seq.{take-at, drop-drop, drop-at}
 use lib.Ieee.{Float}
 use Rattle.image.specs.Panel.{panelOf}
 use Rattle.evaluate.specs.Properties.{Each}
@@ -29,14 +29,6 @@ use Rattle.certificate.proofs.Unrefused.{Unrefused, none-refuses}
 
 -- ---- slots, one behind the other
 
--- the words begin so
-record Starts (l ws : List ℕ) : Type 0 where
-  rest : List ℕ
-  is : ws ≡ l ++ rest
-
-starts-append : {l ws : List ℕ} (more : List ℕ) → Starts l ws → Starts l (ws ++ more)
-starts-append {l} more h = record { rest = h .rest ++ more; is = ap (λ (x : List ℕ). x ++ more) (h .is) ∙ append-assoc l (h .rest) more }
-
 abbrev Fits : ℕ → Evaluated → Type 0
 Fits v e = length (encode (e .assignment)) ≤ v
 
@@ -44,14 +36,14 @@ slot-length : (v : ℕ) (e : Evaluated) → Fits v e → length (slotWords v e) 
 slot-length v e h = pad-length v (encode (e .assignment)) h
 
 slots-at : (v : ℕ) (t : List Evaluated) (more : List ℕ) (d : Evaluated) → Each (Fits v) t → (j : ℕ) → j < length t
-    → Starts (encode (getD t j d .assignment)) (drop (j * v) (flat (map (slotWords v) t) ++ more))
+    → take v (drop (j * v) (flat (map (slotWords v) t) ++ more)) ≡ slotWords v (getD t j d)
 slots-at v [] more d h j lt = absurd (not-suc-le-zero lt)
-slots-at v (e ∷ t) more d h zero lt = rw zero-mul (starts-append more (starts-append (flat (map (slotWords v) t)) (record { rest = _; is = refl })))
+slots-at v (e ∷ t) more d h zero lt =
+    rw zero-mul (ap (take v) (append-assoc (slotWords v e) (flat (map (slotWords v) t)) more) ∙ take-at (slotWords v e) (flat (map (slotWords v) t) ++ more) v (slot-length v e (h .0)))
 slots-at v (e ∷ t) more d h (suc j) lt =
-    let behind : drop (suc j * v) (flat (map (slotWords v) (e ∷ t)) ++ more) ≡ drop (j * v) (flat (map (slotWords v) t) ++ more)
-    = ap (λ (l : List ℕ). drop (suc j * v) l) (append-assoc (slotWords v e) (flat (map (slotWords v) t)) more)
-    ∙ past (slotWords v e) (flat (map (slotWords v) t) ++ more) (slot-length v e (h .0)) in
-    subst (Starts (encode (getD t j d .assignment))) (sym behind) (slots-at v t more d (h .1) j (omega arith))
+    ap (λ (l : List ℕ). take v (drop (suc j * v) l)) (append-assoc (slotWords v e) (flat (map (slotWords v) t)) more)
+    ∙ ap (take v) (past (slotWords v e) (flat (map (slotWords v) t) ++ more) (slot-length v e (h .0)))
+    ∙ slots-at v t more d (h .1) j (omega arith)
   where
     past : (x ys : List ℕ) → length x ≡ v → drop (suc j * v) (x ++ ys) ≡ drop (j * v) ys
     past x ys n =
@@ -131,10 +123,9 @@ module _ (s : List ℕ) (b : SearchBudget) (xs : List Float) (rooms : Rooms) (no
     in-slot : Each (Fits v) (i ∷ kept .tied) → (d : Evaluated) (n : ℕ) → n < length (i ∷ kept .tied) → InSlot v (searchRooms s b xs rooms) n (getD (i ∷ kept .tied) n d)
     in-slot all d n lt =
         let (more, e) = all-slots in
-        let w = slots-at v (i ∷ kept .tied) more d all n lt in
         let (most, f) = all-scores in
         record {
-          words = record { rest = w .rest; words = ap (λ (l : List ℕ). drop (n * v) l) e ∙ w .is };
+          words = ap (λ (l : List ℕ). take v (drop (n * v) l)) e ∙ slots-at v (i ∷ kept .tied) more d all n lt;
           score = ap (λ (l : List Float). getD l n zeroScore) f ∙ scores-at (i ∷ kept .tied) most d n lt;
         }
 

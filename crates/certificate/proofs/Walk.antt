@@ -26,7 +26,7 @@ walk-ends = accepted-unbudgeted
 
 pub whole-walk : WholeWalk
 whole-walk s e u =
-    record { found = accepted-found s e; first = found-out s e u; legal = found-legal s e; once = found-once s e; inOrder = found-in-order s e }
+    record { walked = accepted-found s e; first = found-out s e u; legal = found-legal s e; once = found-once s e; inOrder = found-in-order s e }
 
 -- ---- of a walk whose budget is accepted, with a family or without
 

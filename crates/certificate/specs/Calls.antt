@@ -25,11 +25,13 @@ use Rattle.certificate.specs.Terms.{PanelAccepted, handedOver, NativesTh
 abbrev pub page : List ℕ → SearchBudget → ℕ → ℕ → List Assignment
 page s b from many = take many (drop from (handedOver s b))
 
--- `out` lent for a page, `after` at exit
+-- what a listing tells that was not refused; `out` is lent for a page, `after` is out at exit
 pub record Listed (s : List ℕ) (b : SearchBudget) (from : ℕ) (out after : List ℕ) (r : ListReply) : Type 0 where
   -- so many scores the search wants, one for each assignment handed over
   pub evaluations : r .evaluations ≡ length (handedOver s b)
-  -- out begins with the words of the page, one assignment behind the other; the rest stays
+  -- so many are on the page
+  pub count : r .written ≡ length (page s b from (r .written))
+  -- out begins with their words, one assignment behind the other; the rest stays
   pub words : after ≡ over (flat (map encode (page s b from (r .written)))) out
   pub many : r .words ≡ length (flat (map encode (page s b from (r .written))))
   -- the page is the longest that fits: of what is left, the next one does not
@@ -43,7 +45,7 @@ pub record Listed (s : List ℕ) (b : SearchBudget) (from : ℕ) (out after : Li
   -- and then what is listed is one native per family and after them each legal assignment exactly once
   pub whole : r .status ≡ statusNumber Certified → NativesThenLegal (panelOf s) (handedOver s b)
 
--- THE LISTING'S SENTENCE, of every listing that was not refused
+-- THE LISTING'S SENTENCE
 abbrev pub Listing : List ℕ → SearchBudget → ℕ → List ℕ → List ℕ → ListReply → Type 0
 Listing s b from out after r = r .refusal ≡ 0 → Listed s b from out after r
 

@@ -2,6 +2,7 @@ pub mod Terms
 pub mod Slots
 pub mod Sentence
 pub mod Calls
+pub mod Sheet
 pub mod Demand3
 pub mod Larger
 pub mod Raised

@@ -1,4 +1,4 @@
--- The words in which demand 3 is put. Each is a line or two over the definitions of 01.
+-- The words in which the certificate, and behind it demand 3, are put. Each is a line or two over the definitions of 01.
 use Prim.Native.Nat.{ℕ, _≤_, _<_}
 use mathlib.Core.Path.{_≡_}
 use mathlib.Core.Logic.{_⊎_, _↔_}
@@ -54,7 +54,7 @@ evaluations s b xs = evaluated (handedOver s b) xs
 abbrev pub Scores : List ℕ → SearchBudget → List Float → Assignment → Float → Type 0
 Scores s b xs a x = List·Memᴰ (record { assignment = a; score = x }) (evaluations s b xs)
 
--- "equal scores for equal assignments"
+-- "equal scores for equal assignments": identical ones, of 0.0 and -0.0 too
 abbrev pub Agreed : List ℕ → SearchBudget → List Float → Type 0
 Agreed s b xs = (a : Assignment) (x y : Float) → Scores s b xs a x → Scores s b xs a y → x ≡ y
 
@@ -79,11 +79,11 @@ NoTwo l = Pairs (λ a b. a ≡ b → ⊥) l
 
 -- "one native per family and after them each legal assignment exactly once", family by family
 pub record NativesThenLegal (p : Panel) (out : List Assignment) : Type 0 where
-  pub found : List Assignment
-  pub first : out ≡ nativesOf p ++ found
-  pub legal : (a : Assignment) → List·Memᴰ a found ↔ Legal p a
-  pub once : NoTwo found
-  pub inOrder : Neighbours (λ a c. a .family ≤ c .family) found
+  pub walked : List Assignment
+  pub first : out ≡ nativesOf p ++ walked
+  pub legal : (a : Assignment) → List·Memᴰ a walked ↔ Legal p a
+  pub once : NoTwo walked
+  pub inOrder : Neighbours (λ a c. a .family ≤ c .family) walked
 
 -- what the search keeps
 abbrev pub keptBy : List ℕ → SearchBudget → List Float → Kept Evaluated

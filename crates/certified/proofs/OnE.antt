@@ -30,12 +30,12 @@ use Rattle.search.specs.Search.{walked, evaluationRefusal, keptOf, searchedAs, 
 use Rattle.search.specs.Rooms.{mostPaths, slotWidth, roomsRefusal}
 use Rattle.search.specs.Answers.{searchRefusal}
 use Rattle.search.specs.Sheet.{foreign, digits, routeLines, routesLines, sheet, refusalLine}
-use Rattle.search.specs.Job.{panelIn, jobOk, budgetIn, scoresIn, programRooms, jobRefusal, printed}
-use Rattle.certificate.specs.Terms.{handedOver, Complete}
+use Rattle.search.specs.Job.{jobOk, budgetIn, scoresIn, programRooms, jobRefusal, printed}
+use Rattle.certificate.specs.Terms.{Complete}
 use Rattle.certificate.specs.Sentence.{ScoredBy, Tied}
 use Rattle.certificate.proofs.SentenceOnE.{f, g}
-use Rattle.certified.specs.Sheet.{bytesOf, certifiedLine, Reads, Tells}
-use Rattle.certified.proofs.Sheet.{sheet-sentence}
+use Rattle.certificate.specs.Sheet.{bytesOf, certifiedLine, panelFor, handedFor, Shows, Tells}
+use Rattle.certificate.proofs.Sheet.{sheet-sentence}
 
 -- panel E's 296 bytes, no budget words, three scores
 abbrev job : List ℕ → List ℕ
@@ -61,7 +61,7 @@ sheetOf s = printed s
 -- the scores lent in them are so much for the native, twice, and so much for the mosaic
 unfoldable pub scoredAs : (Assignment → Float) → List ℕ → Type 0
 unfolding little number each split sum all count numbersFrom portOf wordOrder headerOf entryOf entries counts pathCounts paths lanePorts hub families zipLanes panelBy panelOf panelE enter terminalTask memberTask portUnit hubUnit unitOf units run seeds seeded afterSeeding walkFrom walk bucketOf wordBelow wordUpTo Ieee.ofBits Ieee.eq budgetIn scoresIn
-scoredAs h s = ScoredBy h (handedOver (panelIn s) (budgetIn s)) (scoresIn s)
+scoredAs h s = ScoredBy h (handedFor s) (scoresIn s)
 
 -- ---- 5, 5, 4
 
@@ -80,12 +80,16 @@ scored5 : scoredAs f job5
 unfolding scoredAs job5
 scored5 = (refl, (refl, (refl, tt)))
 
-pub read5 : Reads f job5 (printed job5)
-unfolding scoredAs
-read5 = record { first = inl (record { rest = bytesOf behind5; is = printed5 }); scored = scored5 }
+pub tells5 : Tells job5 (printed job5)
+tells5 = sheet-sentence job5 (inl (record { rest = bytesOf behind5; is = printed5 }))
 
-pub tells5 : Tells f job5 (printed job5)
-tells5 = sheet-sentence job5 f read5
+some5 : 0 < length (panelFor job5 .families)
+unfolding little number each split sum portOf headerOf entryOf entries counts pathCounts paths lanePorts hub families zipLanes panelBy panelOf panelE job5 IsLe
+some5 = le-by-compare 1 1 tt
+
+pub shows5 : Shows f job5 (printed job5)
+unfolding scoredAs
+shows5 = tells5 .shows some5 f scored5
 
 -- ---- 0.0, -0.0, 4.0, where g says -0.0
 
@@ -104,16 +108,16 @@ scored0 : scoredAs g job0
 unfolding scoredAs job0
 scored0 = (refl, (refl, (refl, tt)))
 
-pub read0 : Reads g job0 (printed job0)
-unfolding scoredAs
-read0 = record { first = inl (record { rest = bytesOf behind0; is = printed0 }); scored = scored0 }
+pub tells0 : Tells job0 (printed job0)
+tells0 = sheet-sentence job0 (inl (record { rest = bytesOf behind0; is = printed0 }))
 
-pub tells0 : Tells g job0 (printed job0)
-tells0 = sheet-sentence job0 g read0
-
-pub some0 : 0 < length (panelOf (panelIn job0) .families)
+some0 : 0 < length (panelFor job0 .families)
 unfolding little number each split sum portOf headerOf entryOf entries counts pathCounts paths lanePorts hub families zipLanes panelBy panelOf panelE job0 IsLe
 some0 = le-by-compare 1 1 tt
 
-pub complete0 : Complete (λ a. a) (handedOver (panelIn job0) (budgetIn job0)) (Tied g (panelOf (panelIn job0)) (budgetIn job0 .«tie_width») (tells0 .shows some0 .incumbent)) (tells0 .shows some0 .tied)
-complete0 = tells0 .shows some0 .best .complete (record { rest = bytesOf behind0; is = printed0 })
+pub shows0 : Shows g job0 (printed job0)
+unfolding scoredAs
+shows0 = tells0 .shows some0 g scored0
+
+pub complete0 : Complete (λ a. a) (handedFor job0) (Tied g (panelFor job0) (budgetIn job0 .«tie_width») (shows0 .incumbent)) (shows0 .tied)
+complete0 = shows0 .complete (record { rest = bytesOf behind0; is = printed0 })

@@ -1,5 +1,5 @@
 use borrow.Author.Needs.{needs}
-use Rattle.certified.proofs.Sheet.{sheet-of}
+use Rattle.certificate.proofs.Sheet.{sheet-of}
 use Rattle.certified.proofs.print.Statement.{statement}
 use Rattle.certified.proofs.print.Tie as tie
 

@@ -1,7 +1,7 @@
 use borrow.Author.Needs.{needs}
 use Rattle.certificate.proofs.Calls.{judged-of}
-use Rattle.certificate.proofs.judge.Statement.{statement}
-use Rattle.certificate.proofs.judge.Tie as tie
+use Rattle.certified.proofs.judge.Statement.{statement}
+use Rattle.certified.proofs.judge.Tie as tie
 
 pub judge-spec : {M : Type 1} → statement M
 judge-spec =

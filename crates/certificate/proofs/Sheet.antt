@@ -18,21 +18,21 @@ use Rattle.evaluate.specs.Segments.{Assignment}
 use Rattle.evaluate.specs.Check.{over}
 use Rattle.search.specs.declared.SearchBudget.{SearchBudget}
 use Rattle.search.specs.declared.SearchReply.{SearchReply}
+use Rattle.search.specs.declared.Tally.{Tally}
 use Rattle.search.specs.declared.Status.{Status}
 use Rattle.search.specs.declared.Status.the-variants.{Certified, SupportIncomplete, WorkExhausted, EvaluationExhausted, FrontierExhausted}
 use Rattle.search.specs.Run.{walk}
-use Rattle.search.specs.Counters.{statusNumber, tallyOf}
+use Rattle.search.specs.Counters.{statusNumber, tallyOf, noTally}
 use Rattle.search.specs.Keep.{Evaluated}
 use Rattle.search.specs.Search.{walked, searchedAs, searchFrom, search, statusAfter}
 use Rattle.search.specs.Answers.{searchRefusal, replyOf, searchAnswer}
 use Rattle.search.specs.Sheet.{line, field, statusText, statusBytes, tallyLines, optimaText, foreignText, foreign, routesLines, incumbentLines, sheet, refusalLine}
 use Rattle.search.specs.Job.{panelIn, budgetIn, scoresIn, jobOk, programRooms, jobRefusal, printed}
-use Rattle.enumeration.proofs.Tally.{walk-tallied}
-use Rattle.certificate.specs.Terms.{Exhausted, handedOver, keptBy}
-use Rattle.certificate.specs.Sentence.{Asked}
+use Rattle.certificate.specs.Terms.{Exhausted, keptBy}
+use Rattle.certificate.specs.Sentence.{ScoredBy}
 use Rattle.certificate.proofs.Reply.{reply-of}
 use Rattle.certificate.proofs.Sentence.{Shown, shown, sentence}
-use Rattle.certified.specs.Sheet.{bytesOf, Begins, certifiedLine, incompleteLine, Reads, Shows, Tells, SheetCertifies}
+use Rattle.certificate.specs.Sheet.{bytesOf, Begins, certifiedLine, incompleteLine, panelFor, walkFor, handedFor, Shows, Tells, SheetCertifies}
 
 -- ---- first lines
 
@@ -101,20 +101,23 @@ module _ (job : List ℕ) where
     st = statusAfter (search (panelOf s) b xs)
 
     abbrev more : List Evaluated → List ℕ
-    more best = tallyLines (search (panelOf s) b xs .state .tally) ++ (field optimaText (length (keptBy s b xs .tied)) ++ incumbentLines (panelOf s) best)
+    more best = field optimaText (length (keptBy s b xs .tied)) ++ incumbentLines (panelOf s) best
 
-    text-is : printed job ≡ line (statusText ∷ statusBytes st ∷ []) ++ more (keptBy s b xs .best)
+    abbrev behind : List ℕ
+    behind = tallyLines (search (panelOf s) b xs .state .tally) ++ more (keptBy s b xs .best)
+
+    text-is : printed job ≡ line (statusText ∷ statusBytes st ∷ []) ++ behind
     unfolding sheet
     text-is = at .is
 
-    cast : (words : String) → Begins words (printed job) → Begins words (line (statusText ∷ statusBytes st ∷ []) ++ more (keptBy s b xs .best))
+    cast : (words : String) → Begins words (printed job) → Begins words (line (statusText ∷ statusBytes st ∷ []) ++ behind)
     cast words h = record { rest = h .rest; is = sym text-is ∙ h .is }
 
     certified : Begins certifiedLine (printed job) → st ≡ Certified
-    certified h = says-certified st (more (keptBy s b xs .best)) (cast certifiedLine h)
+    certified h = says-certified st behind (cast certifiedLine h)
 
     incomplete : Begins incompleteLine (printed job) → st ≡ SupportIncomplete
-    incomplete h = says-incomplete st (more (keptBy s b xs .best)) (cast incompleteLine h)
+    incomplete h = says-incomplete st behind (cast incompleteLine h)
 
     answer : searchAnswer s b xs programRooms ≡ replyOf (search (panelOf s) b xs)
     answer = reply-of s b xs programRooms (at .none)
@@ -131,36 +134,26 @@ module _ (job : List ℕ) where
     unfolding replyOf
     optima-are = ap (λ (r : SearchReply). r .optima) answer
 
-    evaluations-are : search (panelOf s) b xs .state .tally .evaluations ≡ length (handedOver s b)
-    unfolding search searchFrom searchedAs walked tallyOf walk
-    evaluations-are = walk-tallied (panelOf s) b
+    tally-is : search (panelOf s) b xs .state .tally ≡ tallyOf (panelFor job) noTally (walkFor job)
+    unfolding search searchFrom searchedAs walked walk
+    tally-is = refl
 
-    module _ (f : Assignment → Float) (read : Reads f job (printed job)) where
-      asked : Asked f s b xs (searchAnswer s b xs programRooms)
-      asked = record { passed = passed; scored = read .scored }
-
+    module _ (first : Begins certifiedLine (printed job) ⊎ Begins incompleteLine (printed job)) where
       told : Exhausted (searchAnswer s b xs programRooms)
-      told = ⊎-elim (λ h. inl (status-is ∙ ap statusNumber (certified h))) (λ h. inr (status-is ∙ ap statusNumber (incomplete h))) (read .first)
+      told = ⊎-elim (λ h. inl (status-is ∙ ap statusNumber (certified h))) (λ h. inr (status-is ∙ ap statusNumber (incomplete h))) first
 
-      shows : 0 < length (panelOf s .families) → Shows f job (printed job)
-      shows family = go (shown f s b xs programRooms asked told family)
+      shows : 0 < length (panelFor job .families) → (f : Assignment → Float) → ScoredBy f (handedFor job) (scoresIn job) → Shows f job (printed job)
+      shows family f by-f = go (shown s b xs programRooms passed told family f by-f)
         where
           go : Shown f s b xs programRooms → Shows f job (printed job)
           go w =
               record {
                 incumbent = i;
                 tied = l;
-                best = record {
-                  legal = w .found .best .legal;
-                  least = w .found .best .least;
-                  within = w .found .best .within;
-                  once = w .found .best .once;
-                  complete = λ h. w .found .best .complete (status-is ∙ ap statusNumber (certified h));
-                };
+                best = w .found .best;
+                complete = λ h. w .found .complete (status-is ∙ ap statusNumber (certified h));
                 status = st;
-                counters = search (panelOf s) b xs .state .tally;
-                counted = evaluations-are;
-                lines = text-is ∙ ap (λ (t : List ℕ). line (statusText ∷ statusBytes st ∷ []) ++ (tallyLines (search (panelOf s) b xs .state .tally) ++ t)) (optima ∙ incumbent);
+                lines = text-is ∙ ap (λ (t : List ℕ). line (statusText ∷ statusBytes st ∷ []) ++ t) (ap (λ (c : Tally). tallyLines c ++ more (keptBy s b xs .best)) tally-is ∙ ap (λ (t : List ℕ). tallyLines counters ++ t) (optima ∙ incumbent));
               }
             where
               i : Assignment
@@ -169,7 +162,10 @@ module _ (job : List ℕ) where
               l : List Assignment
               l = w .found .tied
 
-              optima : field optimaText (length (keptBy s b xs .tied)) ++ incumbentLines (panelOf s) (keptBy s b xs .best) ≡ field optimaText (length l) ++ incumbentLines (panelOf s) (keptBy s b xs .best)
+              counters : Tally
+              counters = tallyOf (panelFor job) noTally (walkFor job)
+
+              optima : more (keptBy s b xs .best) ≡ field optimaText (length l) ++ incumbentLines (panelOf s) (keptBy s b xs .best)
               optima = ap (λ (n : ℕ). field optimaText n ++ incumbentLines (panelOf s) (keptBy s b xs .best)) (sym optima-are ∙ w .found .behind .many)
 
               incumbent : field optimaText (length l) ++ incumbentLines (panelOf s) (keptBy s b xs .best)
@@ -178,20 +174,20 @@ module _ (job : List ℕ) where
                   ap (λ (t : List Evaluated). field optimaText (length l) ++ incumbentLines (panelOf s) t) (w .is)
                   ∙ ap (λ (a : Assignment). field optimaText (length l) ++ (field foreignText (foreign (panelOf s) a) ++ routesLines 0 (a .routes))) (w .same)
 
-      tells : Tells f job (printed job)
+      tells : Tells job (printed job)
       tells =
-          let c = sentence s b xs programRooms f asked in
+          let c = sentence s b xs programRooms passed in
           record { ends = c .ends; enough = λ u. c .when u .0 told; evaluated = c .evaluated told; shows = shows }
 
 -- THE SHEET'S SENTENCE
 pub sheet-sentence : (job : List ℕ) → SheetCertifies job (printed job)
-sheet-sentence job f read = go (either job)
+sheet-sentence job first = go (either job)
   where
-    go : Searched job ⊎ (printed job ≡ refusalLine (jobRefusal job)) → Tells f job (printed job)
-    go (inl at) = tells job at f read
+    go : Searched job ⊎ (printed job ≡ refusalLine (jobRefusal job)) → Tells job (printed job)
+    go (inl at) = tells job at first
     go (inr e) =
         absurd (⊎-elim (λ h. not-certified (jobRefusal job) (record { rest = h .rest; is = sym e ∙ h .is }))
-        (λ h. not-incomplete (jobRefusal job) (record { rest = h .rest; is = sym e ∙ h .is })) (read .first))
+        (λ h. not-incomplete (jobRefusal job) (record { rest = h .rest; is = sym e ∙ h .is })) first)
 
 -- of the bytes put out, as many as told
 put-out : (l room : List ℕ) → take (length l) (over l room) ≡ l

@@ -1,7 +1,7 @@
 use borrow.Author.Needs.{needs}
 use Rattle.certificate.proofs.Calls.{listing-of}
-use Rattle.certificate.proofs.to_score.Statement.{statement}
-use Rattle.certificate.proofs.to_score.Tie as tie
+use Rattle.certified.proofs.to_score.Statement.{statement}
+use Rattle.certified.proofs.to_score.Tie as tie
 
 pub to-score-spec : {M : Type 1} → statement M
 to-score-spec =

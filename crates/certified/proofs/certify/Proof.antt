@@ -1,7 +1,7 @@
 use borrow.Author.Needs.{needs}
 use Rattle.certificate.proofs.Sentence.{sentence-of}
-use Rattle.certificate.proofs.certify.Statement.{statement}
-use Rattle.certificate.proofs.certify.Tie as tie
+use Rattle.certified.proofs.certify.Statement.{statement}
+use Rattle.certified.proofs.certify.Tie as tie
 
 pub certify-spec : {M : Type 1} → statement M
 certify-spec =

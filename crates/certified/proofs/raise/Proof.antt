@@ -1,7 +1,7 @@
 use borrow.Author.Needs.{needs}
 use Rattle.certificate.proofs.Raised.{raised-only-adds}
-use Rattle.certificate.proofs.raise.Statement.{statement}
-use Rattle.certificate.proofs.raise.Tie as tie
+use Rattle.certified.proofs.raise.Statement.{statement}
+use Rattle.certified.proofs.raise.Tie as tie
 
 pub raise-spec : {M : Type 1} → statement M
 raise-spec =
