@@ -24,8 +24,9 @@ typedef struct { uint64_t refusal, place, words; } assignment_reply;
 /* a larger budget only adds: with none smaller and the same tie width, the incumbent is the same or scores lower */
 typedef struct { uint64_t max_work, max_evaluations, max_frontier, max_optima; double tie_width; } search_budget;
 
-/* status: 1 certified, 2 support incomplete, 3 work, 4 evaluation, 5 frontier. 1 and 2: every legal assignment was evaluated; of a search none scores
-   below slot 0. 1: of a search the slots behind it have exactly those within the tie width (README, "What 'certified' says"). A listing has no 2 */
+/* status: 1 certified, 2 support incomplete, 3 work, 4 evaluation, 5 frontier. 1 and 2: every legal assignment was evaluated, and if the scores are those
+   of one function, none scores below slot 0 (without a family there is none). 1: slots 1 to optima have exactly those within the tie width. A listing
+   has 1, 3, 4 and 5; 1 says that every legal assignment is listed (README, "What 'certified' says") */
 typedef struct { uint64_t refusal, place, status, written, words, evaluations; } list_reply;
 
 /* optima: tied optima kept; discarded: 1 where one was discarded; frames: frames left; pending: 1 where a child is pending */

@@ -113,8 +113,8 @@ impl Panel<'_> {
 
     /// The walk with score n, from 1, for evaluation n. Refusals 11, 12, 14 and 15.
     ///
-    /// Equal assignments may come with different scores here, other than 0.0 and -0.0; "certified"
-    /// then says nothing.
+    /// Nothing holds equal assignments to equal scores here. Where they differ (0.0 and -0.0 do
+    /// not), they are no function's, and "certified" does not say what is best.
     pub fn search_with_scores(&self, budget: SearchBudget, scores: &[f64]) -> Result<Sheet, Refusal> {
         let rooms = Rooms::new(self, &budget);
         let mut frames = vec![0; rooms.frames];

@@ -4,22 +4,27 @@ use std::fmt;
 
 /// How a walk ended.
 ///
-/// What the first two say is a theorem about the library (`certificate/specs/Sentence.antt`). Let f
-/// be any scoring function with which the scores agree, as doubles are equal: 0.0 and -0.0 are one
-/// score. Of a search that was not refused:
+/// What the first two say is a theorem about the calls that this crate links
+/// (`certificate/specs/Sentence.antt`); that the crate reads their rooms rightly is tested. Of a
+/// search that was not refused:
 ///
 /// - the status is one of these two exactly when `max_work`, `max_evaluations` and `max_frontier`
 ///   suffice for the walk without budgets, which ends on every panel;
-/// - then every legal assignment was evaluated; the incumbent is one of them, and no legal
-///   assignment has a lower score by f;
-/// - then each of the tied optima is a legal assignment whose score minus the incumbent's, by one
+/// - then one native assignment per family was evaluated, and after them each legal assignment
+///   exactly once.
+///
+/// If besides there is a family, then for every scoring function f with which the scores agree, as
+/// doubles are equal (0.0 and -0.0 are one score):
+///
+/// - the incumbent is a legal assignment, and no legal assignment has a lower score by f;
+/// - each of the tied optima is a legal assignment whose score minus the incumbent's, by one
 ///   subtraction of doubles, is within the tie width, and none is there twice;
-/// - with [`Status::Certified`] these are all such assignments, in the order in which they were
-///   first evaluated.
+/// - with [`Status::Certified`] these are all such assignments, the incumbent among them, in the
+///   order in which they were first evaluated.
 ///
 /// A panel without families has no legal assignment: its walk is `Certified`, with no incumbent.
-/// Nothing is said of f itself, nor of a walk that a budget stopped, but that its budgets do not
-/// suffice. In a listing `Certified` says that every legal assignment is listed.
+/// Nothing is said of f itself, nor of what is best where a budget stopped the walk. In a listing
+/// `Certified` says that every legal assignment is listed.
 #[derive(Clone, Copy, Debug, PartialEq, Eq, Hash)]
 pub enum Status {
     /// Every legal assignment was scored: none scores below the incumbent, and the tied optima
@@ -147,8 +152,8 @@ pub struct Sheet {
     pub counters: Counters,
     /// The best assignment; `None` only for a panel without families.
     pub incumbent: Option<Scored>,
-    /// The assignments that tie with it; where none was discarded, in the order in which they
-    /// were first evaluated.
+    /// The assignments that tie with it; where none was discarded, itself among them, in the order
+    /// in which they were first evaluated.
     pub optima: Vec<Scored>,
     /// Whether one that tied found max_optima of them there.
     pub discarded: bool,

@@ -69,7 +69,7 @@ pub record OnlyAdds (s : List ℕ) (b c : SearchBudget) (xs : List Float) (q r :
   -- in its order, and what is new comes behind it
   pub stay : Roomy b c q → (j : Evaluated) → keptBy s c xs .best ≡ j ∷ []
       → (new : List Evaluated) × (keptBy s c xs .tied ≡ tiesTo scoreOf (j .score) (b .«tie_width») (keptBy s b xs .tied) ++ new)
-  -- with max_optima larger and some discarded: if no more is handed over, and equal assignments have equal scores, what was tied stays tied
+  -- with max_optima larger and some discarded: if no more is handed over, and equal assignments have identical scores, what was tied stays tied
   pub noneLost : handedOver s c ≡ handedOver s b → Agreed s b xs → (e : Evaluated) → List·Memᴰ e (keptBy s b xs .tied) → List·Memᴰ e (keptBy s c xs .tied)
   -- with max_optima the same a discarded mark stays
   pub marked : c .«max_optima» ≡ b .«max_optima» → q .discarded ≡ 1 → r .discarded ≡ 1

@@ -88,7 +88,7 @@ pub record SideBySide : Type 0 where
   pub p10-marks : marks (budget 100000 1000 32 1 one) ∷ marks (budget 100000 1000 32 8 one) ∷ [] ≡ (2 ∷ 1 ∷ []) ∷ (1 ∷ 0 ∷ []) ∷ []
   -- not promised: that the tied list of a run that was stopped is part of the larger run's (P9: the native, then the mosaic)
   pub ties : tiedOf (budget 100000 1000 2 8 0) ∷ tiedOf (budget 100000 1000 3 8 0) ∷ [] ≡ (nativeWords ∷ []) ∷ (mosaicWords ∷ []) ∷ []
-  -- not promised: that it is part of it where max_optima alone is larger, unless equal assignments have equal scores
+  -- not promised: that it is part of it where max_optima alone is larger, unless equal assignments have identical scores
   pub two-scores : shown (answersTo panelE2 unequal .kept (budget 100000 1000 32 1 one) .tied)
       ∷ shown (answersTo panelE2 unequal .kept (budget 100000 1000 32 2 one) .tied) ∷ []
       ≡ (otherNative ∷ []) ∷ (otherMosaic ∷ []) ∷ []

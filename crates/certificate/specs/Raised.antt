@@ -42,6 +42,7 @@ pub record Held (s : List ℕ) (b c : SearchBudget) (xs : List Float) (after lat
   pub stay : Roomy b c q → (more : List Evaluated) × (newTied ≡ tiesTo scoreOf (new .score) (b .«tie_width») oldTied ++ more)
   pub noneLost : r .evaluations ≡ q .evaluations → Agreed s b xs → (e : Evaluated) → List·Memᴰ e oldTied → List·Memᴰ e newTied
 
+-- what the second run has of the first
 pub record Added (s : List ℕ) (b c : SearchBudget) (xs : List Float) (after later : Rooms) (q r : SearchReply) : Type 0 where
   -- each run hands over as many as its reply says, and the first run's are the first of the second's
   pub counted : q .evaluations ≡ length (handedOver s b)

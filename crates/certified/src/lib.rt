@@ -1,5 +1,5 @@
-// What is certified: the exported calls and the walk program's answer, each with the sentence that it owes, and nothing known of it but its
-// promise.
+// What is certified: the exported search, listing and check and the walk program's answer, each with the sentence that it owes, and nothing known of
+// it but its promise; and two runs of the search.
 ghost use lib.ListN.{take};
 ghost use Rattle.certificate.specs.Sentence.{Sentence};
 ghost use Rattle.certificate.specs.Calls.{Listing, Judged};

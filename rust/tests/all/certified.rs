@@ -5,7 +5,7 @@ use crate::{
     random::Rng,
 };
 use panel_routes::{Assignment, Panel, PanelBuilder, SearchBudget, Sheet, Status};
-use std::collections::HashSet;
+use std::collections::{HashMap, HashSet};
 
 fn words(sheet: &Sheet) -> Vec<&[u64]> {
     sheet.optima.iter().map(|o| o.assignment.words()).collect()
@@ -13,9 +13,11 @@ fn words(sheet: &Sheet) -> Vec<&[u64]> {
 
 /// Whether the list is in the order in which its assignments are first listed.
 fn in_order(panel: &Panel, budget: SearchBudget, sheet: &Sheet) -> bool {
-    let handed: Vec<Assignment> = panel.assignments(budget).unwrap().collect();
-    let first = |a: &Assignment| handed.iter().position(|h| h == a).unwrap();
-    sheet.optima.windows(2).all(|two| first(&two[0].assignment) < first(&two[1].assignment))
+    let mut first = HashMap::new();
+    for (n, a) in panel.assignments(budget).unwrap().enumerate() {
+        first.entry(a).or_insert(n);
+    }
+    sheet.optima.windows(2).all(|two| first[&two[0].assignment] < first[&two[1].assignment])
 }
 
 #[test]
@@ -72,7 +74,7 @@ fn score(turn: u64, a: &Assignment) -> f64 {
 
 /// The best and its ties by f, of all legal assignments as the plain engine lists them.
 fn is_best(panel: &Panel, budget: SearchBudget, sheet: &Sheet, f: impl Fn(&Assignment) -> f64) {
-    let legal: Vec<Assignment> = panel.plain_assignments().unwrap().collect();
+    let legal: HashSet<Assignment> = panel.plain_assignments().unwrap().collect();
     let best = sheet.incumbent.as_ref().unwrap();
     let tied = |a: &Assignment| f(a) - f(&best.assignment) <= budget.tie_width;
     assert!(legal.contains(&best.assignment) && best.score == f(&best.assignment));
@@ -90,12 +92,12 @@ fn is_best(panel: &Panel, budget: SearchBudget, sheet: &Sheet, f: impl Fn(&Assig
 #[test]
 fn the_best_of_all_by_any_scoring_function() {
     let (mut certified, mut incomplete, mut ties) = (0, 0, 0);
-    for seed in 0..300 {
+    for seed in 0..80 {
         let mut rng = Rng(seed);
         let panel = scattered(&mut rng);
         let turn = rng.below(1_000);
-        for (max_optima, tie_width) in [(1, 0.5), (2, 1.0), (1_024, 0.0), (1_024, 1.0)] {
-            let budget = SearchBudget { max_optima, tie_width, max_frontier: 64, ..SearchBudget::default() };
+        for (max_optima, tie_width) in [(1, 0.5), (2, 1.0), (64, 0.0), (64, 1.0)] {
+            let budget = SearchBudget { max_work: 2_000, max_optima, tie_width, ..SearchBudget::default() };
             let sheet = panel.search(budget, |a| score(turn, a)).unwrap();
             match sheet.status {
                 Status::Certified => certified += u64::from(sheet.incumbent.is_some()),
