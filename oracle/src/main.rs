@@ -2,7 +2,7 @@
 use oracle::{
     calls::{Call, Kind, KINDS},
     compare::{self, Run},
-    crops, examples, judge, large, outside, raised, record, rules, sample,
+    crops, examples, judge, large, outside, raised, record, rules, sample, sentence,
 };
 use std::{
     fs,
@@ -128,6 +128,7 @@ fn main() {
         ["discarded"] => compare::discarded(&run).is_ok(),
         ["raised"] => raised::pairs(&run).is_ok(),
         ["crops"] => crops::hold(&run).is_ok(),
+        ["sentence"] => sentence::hold(&run).is_ok(),
         ["outside"] => {
             outside::show();
             true

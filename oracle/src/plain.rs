@@ -727,11 +727,16 @@ impl Kept<'_> {
         self.kept_scores[slots..].fill(0.0);
     }
 
+    fn is_tied(&self, score: f64, best: f64) -> bool {
+        let over = score - best;
+        over < self.tie_width || (!cfg!(feature = "fault-tie") && over == self.tie_width)
+    }
+
     /// Drops the tied that the new score leaves behind, keeping the order of the others.
     fn drop_worse(&mut self, score: f64) {
         let mut stay = 0;
         for i in 0..self.tied {
-            if self.kept_scores[1 + i] - score <= self.tie_width {
+            if cfg!(feature = "fault-drop") || self.is_tied(self.kept_scores[1 + i], score) {
                 if stay != i {
                     self.copy(1 + i, 1 + stay);
                     self.kept_scores[1 + stay] = self.kept_scores[1 + i];
@@ -765,7 +770,7 @@ impl Evaluations for Kept<'_> {
             self.copy(spare, 0);
             self.drop_worse(score);
         }
-        if score - self.kept_scores[0] <= self.tie_width {
+        if self.is_tied(score, self.kept_scores[0]) {
             let known = (1..=self.tied).any(|i| self.slot(i) == self.slot(spare));
             if !known && self.tied < self.max_optima {
                 self.tied += 1;
