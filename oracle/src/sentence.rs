@@ -35,7 +35,8 @@ const PALETTES: [(&[f64], f64); 6] = [
 
 const WIDTHS: [f64; 6] = [0.0, -0.0, 0.5, 1.0, 1.0 / 1024.0, f64::MAX];
 
-/// Units, evaluations and deepest stack of the unbudgeted walk, where it ends soon.
+/// Units, evaluations and deepest stack of the unbudgeted walk, where it ends soon. It is the stand-in's
+/// walk: a fault in that shows as the original's.
 fn sizes(image: &[u8]) -> Option<[u64; 3]> {
     let panel = Panel::parse(image).expect("a sound panel");
     let ends = |frontier| gen::size_of(&panel, frontier, REACH);
@@ -130,7 +131,9 @@ impl Given {
             o.reply == [0, 0, words.len() as u64] && o.rooms[0] == words
         };
         need(self.legal.iter().all(|a| passes(a)), "the check refuses a legal assignment")?;
+        let reverse = |a: &&Vec<u64>| gen::routes_of(a).iter().flatten().any(|p| p[3] == 1);
         note(met, "legal assignments", self.legal.len() as u64);
+        note(met, "legal with a reverse piece", self.legal.iter().filter(reverse).count() as u64);
         for _ in 0..if self.legal.is_empty() { 0 } else { NEAR } {
             let words = self.neighbour(rng);
             let legal = self.legal.contains(&words);
