@@ -152,8 +152,8 @@ pub struct Sheet {
     pub counters: Counters,
     /// The best assignment; `None` only for a panel without families.
     pub incumbent: Option<Scored>,
-    /// The assignments that tie with it; where none was discarded, itself among them, in the order
-    /// in which they were first evaluated.
+    /// The assignments that tie with it. Where none was discarded and equal assignments had equal
+    /// scores, itself is among them, and they stand in the order in which they were first evaluated.
     pub optima: Vec<Scored>,
     /// Whether one that tied found max_optima of them there.
     pub discarded: bool,

@@ -72,7 +72,7 @@ pub record Judged (s ws out after : List ℕ) (r : AssignmentReply) : Type 0 whe
   -- out then begins with the words of the normal form; the rest stays
   pub normal : (a : Assignment) → ws ≡ encode a → r .refusal ≡ 0 → after ≡ over (encode (normalForm a)) out
   pub many : (a : Assignment) → ws ≡ encode a → r .refusal ≡ 0 → r .words ≡ length (encode (normalForm a))
-  -- the words of a legal assignment, as of one listed, are accepted and come back as they are
+  -- the words of a legal assignment are accepted and come back as they are
   pub legal : (a : Assignment) → ws ≡ encode a → PanelAccepted s → Legal (panelOf s) a → length ws ≤ mostWords → length ws ≤ length out → (r .refusal ≡ 0) × (after ≡ over ws out)
   -- a refusal changes nothing
   pub none : (r .refusal ≡ 0 → ⊥) → after ≡ out
