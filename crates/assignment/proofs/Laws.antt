@@ -24,7 +24,7 @@ use Rattle.graph.specs.Check.{checked, panelRefusal}
 use Rattle.evaluate.specs.declared.Refusal.{Refusal}
 use Rattle.evaluate.specs.declared.AssignmentReply.{AssignmentReply}
 use Rattle.evaluate.specs.Refusals.{noRefusal, unless, at}
-use Rattle.evaluate.specs.Segments.{normalize, normalForm, apart, flat}
+use Rattle.evaluate.specs.Segments.{Assignment, normalize, normalForm, apart, flat}
 use Rattle.evaluate.specs.Words.{encode}
 use Rattle.evaluate.specs.Check.{routesRefusal, overlapRefusal, assignmentRefusal, wordsRefusal, checkRefusal, normalWords, checkAnswer, checkOut, givenRefusal}
 use Rattle.evaluate.proofs.Native.{checked-none}
@@ -66,60 +66,91 @@ at-none : (n place : ℕ) (later : Refusal) → n ≡ 0 → at n place later ≡
 at-none zero place later h = refl
 at-none (suc n) place later h = let z : ⊥ = omega arith in absurd z
 
-module _ (s : List ℕ) (h : Header) (ws : List ℕ) (f : Family) (g : Groups s h f) (en : f .number ≡ getD ws 0 0) (ec : f .count ≡ getD ws 1 0)
-    (r : Refusal) (er : r ≡ routesRefusal (panelOf s) 0 (pathsAt (panelOf s) (f .number)) (routesOf (f .count) (drop 2 ws))) where
-  same : r ≡ routesRefusal (panelOf s) 0 (pathsAt (panelOf s) (assignmentOf ws .family)) (assignmentOf ws .routes)
-  same = er ∙ rw (en, ec)
+-- of any assignment, by its routes
+module _ (s : List ℕ) (h : Header) (a : Assignment) (f : Family) (g : Groups s h f) (en : f .number ≡ a .family) (el : length (a .routes) ≡ f .count)
+    (r : Refusal) (er : r ≡ routesRefusal (panelOf s) 0 (pathsAt (panelOf s) (f .number)) (a .routes)) where
+  same : r ≡ routesRefusal (panelOf s) 0 (pathsAt (panelOf s) (a .family)) (a .routes)
+  same = er ∙ rw en
 
-  pub family-refused : 0 < r .number → r ≡ familyRefusal (panelOf s) (assignmentOf ws)
+  pub routes-refused : 0 < r .number → r ≡ familyRefusal (panelOf s) a
   unfolding familyRefusal
-  family-refused z = rw (← same) (at-found r (at (overlapRefusal (assignmentOf ws)) 0 noRefusal) z)
+  routes-refused z = rw (← same) (at-found r (at (overlapRefusal a) 0 noRefusal) z)
 
-  module _ (none : r .number ≤ 0) (b : Bool) (eb : b ≡ apart (flat (routesOf (f .count) (drop 2 ws)))) where
-    given : apart (flat (map normalize (assignmentOf ws .routes))) ≡ b
+  module _ (none : r .number ≤ 0) (b : Bool) (eb : b ≡ apart (flat (a .routes))) where
+    given : apart (flat (map normalize (a .routes))) ≡ b
     given =
         let z : r .number ≡ 0 = omega arith in
-        let q : routesRefusal (panelOf s) 0 (pathsAt (panelOf s) (f .number)) (routesOf (f .count) (drop 2 ws)) .number ≡ 0 = ap (λ (x : Refusal). x .number) (sym er) ∙ z in
-        let l : length (routesOf (f .count) (drop 2 ws)) ≡ length (pathsAt (panelOf s) (f .number)) = routes-length (f .count) (drop 2 ws) ∙ sym (paths-length s h f g) in
-        rw (← ec) (apart-given (routesOf (f .count) (drop 2 ws)) (routes-filled (panelOf s) 0 (pathsAt (panelOf s) (f .number)) (routesOf (f .count) (drop 2 ws)) l q) ∙ sym eb)
+        let q : routesRefusal (panelOf s) 0 (pathsAt (panelOf s) (f .number)) (a .routes) .number ≡ 0 = ap (λ (x : Refusal). x .number) (sym er) ∙ z in
+        let l : length (a .routes) ≡ length (pathsAt (panelOf s) (f .number)) = el ∙ sym (paths-length s h f g) in
+        apart-given (a .routes) (routes-filled (panelOf s) 0 (pathsAt (panelOf s) (f .number)) (a .routes) l q) ∙ sym eb
 
-    later : familyRefusal (panelOf s) (assignmentOf ws) ≡ at (unless b 31 0) 0 noRefusal
+    later : familyRefusal (panelOf s) a ≡ at (unless b 31 0) 0 noRefusal
     unfolding familyRefusal overlapRefusal
     later = let z : r .number ≡ 0 = omega arith in rw (← same, given) (at-none (r .number) (r .place) (at (unless b 31 0) 0 noRefusal) z)
 
+    pub routes-overlap : (x : Refusal) → b ≡ false → x ≡ record { number = 31; place = 0 } → x ≡ familyRefusal (panelOf s) a
+    routes-overlap x z e = e ∙ rw (later, z)
+
+    pub routes-none : (x : Refusal) → b ≡ true → x ≡ record { number = 0; place = 0 } → x ≡ familyRefusal (panelOf s) a
+    routes-none x z e = e ∙ rw (later, z)
+
+-- and of one that stands in words
+module _ (s : List ℕ) (h : Header) (ws : List ℕ) (f : Family) (g : Groups s h f) (en : f .number ≡ getD ws 0 0) (ec : f .count ≡ getD ws 1 0)
+    (r : Refusal) (er : r ≡ routesRefusal (panelOf s) 0 (pathsAt (panelOf s) (f .number)) (routesOf (f .count) (drop 2 ws))) where
+  long : length (assignmentOf ws .routes) ≡ f .count
+  long = routes-length (getD ws 1 0) (drop 2 ws) ∙ sym ec
+
+  said : r ≡ routesRefusal (panelOf s) 0 (pathsAt (panelOf s) (f .number)) (assignmentOf ws .routes)
+  said = er ∙ rw ec
+
+  pub family-refused : 0 < r .number → r ≡ familyRefusal (panelOf s) (assignmentOf ws)
+  family-refused = routes-refused s h (assignmentOf ws) f g en long r said
+
+  module _ (none : r .number ≤ 0) (b : Bool) (eb : b ≡ apart (flat (routesOf (f .count) (drop 2 ws)))) where
     pub family-overlap : (x : Refusal) → b ≡ false → x ≡ record { number = 31; place = 0 } → x ≡ familyRefusal (panelOf s) (assignmentOf ws)
-    family-overlap x z e = e ∙ rw (later, z)
+    family-overlap = routes-overlap s h (assignmentOf ws) f g en long r said none b (eb ∙ rw ec)
 
     pub family-none : (x : Refusal) → b ≡ true → x ≡ record { number = 0; place = 0 } → x ≡ familyRefusal (panelOf s) (assignmentOf ws)
-    family-none x z e = e ∙ rw (later, z)
+    family-none = routes-none s h (assignmentOf ws) f g en long r said none b (eb ∙ rw ec)
 
 -- ---- 23, 24
 
-module _ (s : List ℕ) (h : Header) (ws : List ℕ) (acc : Accepted s h) (number : ℕ) (en : number ≡ getD ws 0 0) (x : Refusal) where
+module _ (s : List ℕ) (h : Header) (a : Assignment) (acc : Accepted s h) (number : ℕ) (en : number ≡ a .family) (x : Refusal) where
   count : length (panelOf s .families) ≡ h .families
   count = rw (panel-families s h (acc .counted .framed)) (families-length s h)
 
-  pub refused-23 : h .families ≤ number → x ≡ record { number = 23; place = 0 } → x ≡ assignmentRefusal (panelOf s) (assignmentOf ws)
+  pub number-23 : h .families ≤ number → x ≡ record { number = 23; place = 0 } → x ≡ assignmentRefusal (panelOf s) a
   unfolding assignmentRefusal
-  refused-23 le e = e ∙ rw (count, ← en, le-ltb number (h .families) le)
+  number-23 le e = e ∙ rw (count, ← en, le-ltb number (h .families) le)
 
-  module _ (lt : number < h .families) (f : Family) (g : Groups s h f) (ef : f .number ≡ number) (n : ℕ) (er : n ≡ getD ws 1 0) where
-    given-routes : length (assignmentOf ws .routes) ≡ n
-    given-routes = routes-length (getD ws 1 0) (drop 2 ws) ∙ sym er
-
-    wanted : length (pathsAt (panelOf s) (assignmentOf ws .family)) ≡ f .count
+  module _ (lt : number < h .families) (f : Family) (g : Groups s h f) (ef : f .number ≡ number) (n : ℕ) (er : n ≡ length (a .routes)) where
+    wanted : length (pathsAt (panelOf s) (a .family)) ≡ f .count
     wanted = rw (← en, ← ef) (paths-length s h f g)
 
-    pub refused-24 : (n ≡ f .count → ⊥) → x ≡ record { number = 24; place = 0 } → x ≡ assignmentRefusal (panelOf s) (assignmentOf ws)
+    pub number-24 : (n ≡ f .count → ⊥) → x ≡ record { number = 24; place = 0 } → x ≡ assignmentRefusal (panelOf s) a
     unfolding assignmentRefusal
-    refused-24 ne e = e ∙ rw (given-routes, wanted, count, ← en, lt-ltb number (h .families) lt, ne-eqb n (f .count) ne)
+    number-24 ne e = e ∙ rw (← er, wanted, count, ← en, lt-ltb number (h .families) lt, ne-eqb n (f .count) ne)
+
+    pub number-later : n ≡ f .count → x ≡ familyRefusal (panelOf s) a → x ≡ assignmentRefusal (panelOf s) a
+    unfolding assignmentRefusal familyRefusal
+    number-later eq e = e ∙ sym rest
+      where
+        rest : assignmentRefusal (panelOf s) a ≡ familyRefusal (panelOf s) a
+        rest = rw (← er, wanted, count, lt-ltb (a .family) (h .families) (rw (← en) lt), eq-eqb n (f .count) eq)
+
+module _ (s : List ℕ) (h : Header) (ws : List ℕ) (acc : Accepted s h) (number : ℕ) (en : number ≡ getD ws 0 0) (x : Refusal) where
+  pub refused-23 : h .families ≤ number → x ≡ record { number = 23; place = 0 } → x ≡ assignmentRefusal (panelOf s) (assignmentOf ws)
+  refused-23 = number-23 s h (assignmentOf ws) acc number en x
+
+  module _ (lt : number < h .families) (f : Family) (g : Groups s h f) (ef : f .number ≡ number) (n : ℕ) (er : n ≡ getD ws 1 0) where
+    given-routes : n ≡ length (assignmentOf ws .routes)
+    given-routes = er ∙ sym (routes-length (getD ws 1 0) (drop 2 ws))
+
+    pub refused-24 : (n ≡ f .count → ⊥) → x ≡ record { number = 24; place = 0 } → x ≡ assignmentRefusal (panelOf s) (assignmentOf ws)
+    refused-24 = number-24 s h (assignmentOf ws) acc number en x lt f g ef n given-routes
 
     pub refused-later : n ≡ f .count → x ≡ familyRefusal (panelOf s) (assignmentOf ws) → x ≡ assignmentRefusal (panelOf s) (assignmentOf ws)
-    unfolding assignmentRefusal familyRefusal
-    refused-later eq e = e ∙ sym rest
-      where
-        rest : assignmentRefusal (panelOf s) (assignmentOf ws) ≡ familyRefusal (panelOf s) (assignmentOf ws)
-        rest = rw (given-routes, wanted, count, lt-ltb (getD ws 0 0) (h .families) (rw (← en) lt), eq-eqb n (f .count) eq)
+    refused-later = number-later s h (assignmentOf ws) acc number en x lt f g ef n given-routes
 
 -- ---- 21, 22, and the answer
 

@@ -11,6 +11,7 @@ use lib.ListN.{length, take, drop, getD}
 use lib.Seq.{take-append-seam}
 use lib.Ieee.{Float}
 use borrow.Author.Tests.{eqb-true}
+use Rattle.ground.specs.Texts.{bytesOf}
 use Rattle.ground.specs.Lists.{pick}
 use Rattle.image.specs.Panel.{panelOf}
 use Rattle.evaluate.specs.declared.Refusal.{Refusal}
@@ -32,7 +33,7 @@ use Rattle.certificate.specs.Terms.{Exhausted, keptBy}
 use Rattle.certificate.specs.Sentence.{ScoredBy}
 use Rattle.certificate.proofs.Reply.{reply-of}
 use Rattle.certificate.proofs.Sentence.{Shown, shown, sentence}
-use Rattle.certificate.specs.Sheet.{bytesOf, Begins, certifiedLine, incompleteLine, panelFor, walkFor, handedFor, Shows, Tells, SheetCertifies}
+use Rattle.certificate.specs.Sheet.{Begins, certifiedLine, incompleteLine, panelFor, walkFor, handedFor, Shows, Tells, SheetCertifies}
 
 -- ---- first lines
 

@@ -1,13 +1,13 @@
 -- What a printed sheet certifies, over f, the users' scoring function. Below, job is the job's bytes, and text what the walk program puts out. The
 -- sheet shows routes; which family's they are, and their score, it does not show.
 use Prim.Native.Nat.{ℕ, _<_}
-use Prim.Native.Char.{code}
-use Prim.Native.String.{String, [] as none, _∷_ as _then_}
+use Prim.Native.String.{String}
 use mathlib.Core.Path.{_≡_}
 use mathlib.Core.Logic.{_⊎_}
 use mathlib.Core.List.{List, [], _∷_, _++_}
 use lib.ListN.{length}
 use lib.Ieee.{Float}
+use Rattle.ground.specs.Texts.{bytesOf}
 use Rattle.image.specs.Panel.{Panel, panelOf}
 use Rattle.evaluate.specs.Segments.{Assignment}
 use Rattle.search.specs.declared.Status.{Status}
@@ -17,11 +17,6 @@ use Rattle.search.specs.Sheet.{line, field, statusText, statusBytes, tallyLines
 use Rattle.search.specs.Job.{panelIn, budgetIn, scoresIn}
 use Rattle.certificate.specs.Terms.{NativesThenLegal, Complete}
 use Rattle.certificate.specs.Sentence.{ScoredBy, Tied, Best}
-
--- a text's bytes
-unfoldable pub bytesOf : String → List ℕ
-bytesOf none = []
-bytesOf (c then s) = code c ∷ bytesOf s
 
 -- what is printed begins so
 pub record Begins (words : String) (text : List ℕ) : Type 0 where

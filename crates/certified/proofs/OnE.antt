@@ -8,6 +8,7 @@ use mathlib.Core.List.{List, [], _∷_, _++_}
 use lib.ListN.{length, replicate}
 use lib.Ieee as Ieee
 use lib.Ieee.{Float}
+use Rattle.ground.specs.Texts.{bytesOf}
 use Rattle.ground.specs.Lists.{each, split, sum, all, any, count, keep, after, rising, numbersFrom, distinct}
 use Rattle.storage.specs.Bytes.{little, number}
 use Rattle.storage.specs.Records.{portOf}
@@ -34,7 +35,7 @@ use Rattle.search.specs.Job.{jobOk, budgetIn, scoresIn, programRooms, jobRefusa
 use Rattle.certificate.specs.Terms.{Complete}
 use Rattle.certificate.specs.Sentence.{ScoredBy, Tied}
 use Rattle.certificate.proofs.SentenceOnE.{f, g}
-use Rattle.certificate.specs.Sheet.{bytesOf, Begins, certifiedLine, panelFor, handedFor, Shows, Tells}
+use Rattle.certificate.specs.Sheet.{Begins, certifiedLine, panelFor, handedFor, Shows, Tells}
 use Rattle.certificate.proofs.Sheet.{sheet-sentence}
 
 -- panel E's 296 bytes, no budget words, three scores

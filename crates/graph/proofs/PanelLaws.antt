@@ -8,7 +8,7 @@ use mathlib.Core.List.{List, [], List·Memᴰ, List·Memᴰ·not-nil, Memᴰ·ca
 use lib.Dec.{ltb, leb}
 use lib.ListN.{length, getD, List·getD-eq-default}
 use borrow.Author.Tests.{eqb-true, leb-true}
-use Rattle.ground.specs.Lists.{split, all, rising, numbersFrom}
+use Rattle.ground.specs.Lists.{split, within, all, rising, numbersFrom}
 use Rattle.ground.proofs.ListLaws.{both, all-at, numbers-at}
 use Rattle.ground.proofs.Members.{all-mem, any-mem, index-of, mem-part, rising-apart, pigeon}
 use Rattle.storage.specs.Records.{noPort, cutAs}
@@ -19,10 +19,10 @@ use Rattle.image.specs.declared.Header.{Header}
 use Rattle.image.specs.declared.Lane.{Lane}
 use Rattle.image.specs.Image.{entries, noEntry, counts, lanePorts, portsOf, startOf, hub}
 use Rattle.image.specs.Inner.{Framed, Stands}
-use Rattle.image.specs.Panel.{panelOf, laneAt, noLane}
-use Rattle.image.proofs.Laws.{panel-ports, panel-hub, panel-k, panel-lanes, panel-entry, row-length, rows-length, hub-length, lane-ports-length}
+use Rattle.image.specs.Panel.{PanelLane, panelOf, laneAt, noLane}
+use Rattle.image.proofs.Laws.{panel-ports, panel-hub, panel-k, panel-lanes, panel-entry, entries-length, row-length, rows-length, hub-length, lane-ports-length}
 use Rattle.panel.specs.Inner.{Accepted}
-use Rattle.panel.specs.Refusals.{soundPlace, from, ownRow, ownRows, laneRising, hubRising, listed, sound8}
+use Rattle.panel.specs.Refusals.{lengthOk, soundPlace, from, ownRow, ownRows, laneRising, hubRising, listed, sound8}
 use Rattle.panel.proofs.Laws.{row-rises, lane-rises, lane-port-sound, lanes-numbers}
 
 module _ (s : List ℕ) (h : Header) (acc : Accepted s h) where
@@ -39,6 +39,22 @@ module _ (s : List ℕ) (h : Header) (acc : Accepted s h) where
 
   ports-of : (l : ℕ) → l < h .lanes → laneAt (panelOf s) l .ports ≡ portsOf h s l
   ports-of l lt = panel-ports s h l framed lt
+
+  -- no lane is longer than the bound
+  pub lane-low : (l : ℕ) → laneAt (panelOf s) l .len ≤ 4294967295
+  unfolding lengthOk
+  lane-low l = go (decLt l (h .lanes))
+    where
+      go : Dec (l < h .lanes) → laneAt (panelOf s) l .len ≤ 4294967295
+      go (yes lt) =
+          let ok : within 1 4294967295 (getD (entries h s) l noEntry .len) ≡ true = all-at noEntry lengthOk (entries h s) l (acc .lengths) (rw (entries-length s h framed) lt) in
+          let most = leb-true (getD (entries h s) l noEntry .len) 4294967295 (both (leb 1 (getD (entries h s) l noEntry .len)) (leb (getD (entries h s) l noEntry .len) 4294967295) ok .1) in
+          let e = panel-entry s h l framed .0 in
+          omega arith
+      go (no f) =
+          let past : length (panelOf s .lanes) ≤ l = (let n = panel-lanes s h framed in omega arith) in
+          let none : laneAt (panelOf s) l .len ≡ 0 = ap (λ (x : PanelLane). x .len) (List·getD-eq-default (panelOf s .lanes) noLane past) in
+          omega arith
 
   -- a lane that has a port is one
   pub lane-known : (l : ℕ) (q : Port) → List·Memᴰ q (laneAt (panelOf s) l .ports) → l < h .lanes

@@ -20,6 +20,8 @@ use Rattle.search.specs.Answers.{Rooms, ListRooms, searchAnswer, searchRooms, l
 use Rattle.letters.specs.Letters.{lettersAnswer}
 use Rattle.spell.specs.declared.SpellReply.{SpellReply}
 use Rattle.spell.specs.Spelling.{spellAnswer, spellOut}
+use Rattle.bed.specs.declared.BedReply.{BedReply}
+use Rattle.bed.specs.Answers.{writeAnswer, writeOut, readAnswer, readOut}
 use Rattle.panel_routes.specs.Replies.{panelReply, portReply, bucketReply, lettersReply}
 use Rattle.panel_routes.specs.declared.PanelReply.{PanelReply}
 use Rattle.panel_routes.specs.declared.PortReply.{PortReply}
@@ -80,3 +82,16 @@ spell-one s d ws slot from to room q r = one
 
 pub spell-out-one : (s d ws : List ℕ) (slot from to : ℕ) (out xs ys : List ℕ) → xs ≡ spellOut s d ws slot from to out → ys ≡ spellOut s d ws slot from to out → xs ≡ ys
 spell-out-one s d ws slot from to out xs ys = one
+
+-- the replies of writing and reading BED, and out afterwards
+pub write-one : (s names ws : List ℕ) (room : ℕ) (q r : BedReply) → q ≡ writeAnswer s names ws room → r ≡ writeAnswer s names ws room → q ≡ r
+write-one s names ws room q r = one
+
+pub write-out-one : (s names ws out xs ys : List ℕ) → xs ≡ writeOut s names ws out → ys ≡ writeOut s names ws out → xs ≡ ys
+write-out-one s names ws out xs ys = one
+
+pub read-one : (s names : List ℕ) (family : ℕ) (text : List ℕ) (room : ℕ) (q r : BedReply) → q ≡ readAnswer s names family text room → r ≡ readAnswer s names family text room → q ≡ r
+read-one s names family text room q r = one
+
+pub read-out-one : (s names : List ℕ) (family : ℕ) (text out xs ys : List ℕ) → xs ≡ readOut s names family text out → ys ≡ readOut s names family text out → xs ≡ ys
+read-out-one s names family text out xs ys = one

@@ -7,6 +7,8 @@ ghost use Rattle.evaluate.specs.Check.{checkAnswer, checkOut};
 ghost use Rattle.letters.specs.Letters.{lettersAnswer};
 ghost use Rattle.spell.specs.Spelling.{spellAnswer, spellOut};
 ghost use Rattle.spell.specs.Theorems.{SpellHolds};
+ghost use Rattle.bed.specs.Answers.{writeAnswer, writeOut, readAnswer, readOut};
+ghost use Rattle.bed.specs.Theorems.{WriteHolds, ReadHolds};
 ghost use Rattle.bound.specs.Bound.{lowerBound};
 ghost use Rattle.bound.specs.Bounded.{BoundHolds};
 ghost use Rattle.search.specs.Answers.{Rooms, searchAnswer, searchRooms, ListRooms, listAnswer, listRooms};
@@ -226,4 +228,35 @@ pub extern "C" fn panel_routes_spell(
     ensures { λ r. ⌜ SpellHolds (now (image .entry)) (now (letters .entry)) (now (words .entry)) slot from to (now (out .entry)) r (now (out .exit)) ⌝ }
 {
     spell::spell(image, letters, words, slot, from, to, out)
+}
+
+// An assignment's words as BED, a line a segment as given, by a table with a line for each lane's name; on a refusal out stays.
+#[no_mangle]
+pub extern "C" fn panel_routes_write_bed(
+    image: &[u8],
+    names: &[u8],
+    words: &[u64],
+    out: &mut [u8],
+) -> bed::BedReply
+    ensures { λ r. ⌜ r ≡ writeAnswer (now (image .entry)) (now (names .entry)) (now (words .entry)) (length (now (out .entry))) ⌝ }
+    ensures { λ r. ⌜ now (out .exit) ≡ writeOut (now (image .entry)) (now (names .entry)) (now (words .entry)) (now (out .entry)) ⌝ }
+    ensures { λ r. ⌜ WriteHolds (now (image .entry)) (now (names .entry)) (now (words .entry)) r (now (out .exit)) ⌝ }
+{
+    bed::write_bed(image, names, words, out)
+}
+
+// Lines of BED read back into the words that they hold, the family given beside them; on a refusal out stays.
+#[no_mangle]
+pub extern "C" fn panel_routes_read_bed(
+    image: &[u8],
+    names: &[u8],
+    family: u64,
+    text: &[u8],
+    out: &mut [u64],
+) -> bed::BedReply
+    ensures { λ r. ⌜ r ≡ readAnswer (now (image .entry)) (now (names .entry)) family (now (text .entry)) (length (now (out .entry))) ⌝ }
+    ensures { λ r. ⌜ now (out .exit) ≡ readOut (now (image .entry)) (now (names .entry)) family (now (text .entry)) (now (out .entry)) ⌝ }
+    ensures { λ r. ⌜ ReadHolds (now (image .entry)) (now (names .entry)) (now (text .entry)) r (now (out .exit)) ⌝ }
+{
+    bed::read_bed(image, names, family, text, out)
 }

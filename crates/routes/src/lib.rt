@@ -15,7 +15,7 @@ ghost use Rattle.evaluate.specs.Check.{leaves, jointRefusal, jointsRefusal, nor
 ghost use Rattle.words.specs.Inner.{segmentsOf, routesOf, Parsed, normalOf, normalFrom, isHere};
 
 // The length of a lane; where there is no such lane, none.
-fn lane_len(image: &[u8], h: image::Header, lane: usize) -> u64
+pub fn lane_len(image: &[u8], h: image::Header, lane: usize) -> u64
     requires { ⌜ Framed (now image) h ⌝ }
     ensures { λ r. ⌜ r ≡ laneAt (panelOf (now (image .entry))) lane .len ⌝ }
 {
@@ -28,7 +28,7 @@ fn lane_len(image: &[u8], h: image::Header, lane: usize) -> u64
 }
 
 // 26.
-fn is_sound(image: &[u8], h: image::Header, s: evaluate::Segment) -> bool
+pub fn is_sound(image: &[u8], h: image::Header, s: evaluate::Segment) -> bool
     requires { ⌜ Framed (now image) h ⌝ }
     ensures { λ r. ⌜ r ≡ soundSpan (panelOf (now (image .entry))) s ⌝ }
 {
@@ -61,7 +61,7 @@ fn are_sound(image: &[u8], h: image::Header, words: &[u64], at: usize, left: usi
 }
 
 // 27: whether a segment is of this lane, forward, with this cut where it should be.
-fn is_forward_at(s: evaluate::Segment, target: u64, cut: u64, wanted: u64) -> bool
+pub fn is_forward_at(s: evaluate::Segment, target: u64, cut: u64, wanted: u64) -> bool
     ensures { λ r. ⌜ r ≡ (eqb (s .source) target && eqb cut wanted && not (s .reverse)) ⌝ }
 {
     let here = ground::both(
@@ -142,7 +142,7 @@ fn is_same_word(a: storage::Port, b: storage::Port) -> bool
 }
 
 // 28, 29, 30.
-fn joint_refusal(
+pub fn joint_refusal(
     image: &[u8],
     h: image::Header,
     starts: &[usize; 4096],

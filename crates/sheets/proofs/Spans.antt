@@ -20,7 +20,7 @@ use Rattle.image.proofs.Laws.{panel-entry, panel-lanes, entries-length}
 use Rattle.panel.specs.Refusals.{lengthOk}
 use Rattle.panel.specs.Inner.{Accepted}
 use Rattle.graph.specs.Lookups.{bucketLo, bucketHi}
-use Rattle.graph.proofs.PanelLaws.{lane-ends, hub-in-lane}
+use Rattle.graph.proofs.PanelLaws.{lane-low, lane-ends, hub-in-lane}
 use Rattle.evaluate.specs.Properties.{Each}
 use Rattle.evaluate.specs.Segments.{Assignment, flat, clear, whole, nativeOf}
 use Rattle.evaluate.proofs.Lists.{each-append}
@@ -46,21 +46,6 @@ cut-up-to q k = go (q .reverse)
     go false = omega arith
 
 module _ (s : List ℕ) (h : Header) (acc : Accepted s h) where
-  lane-low : (l : ℕ) → laneAt (panelOf s) l .len ≤ 4294967295
-  unfolding lengthOk
-  lane-low l = go (decLt l (h .lanes))
-    where
-      go : Dec (l < h .lanes) → laneAt (panelOf s) l .len ≤ 4294967295
-      go (yes lt) =
-          let ok : within 1 4294967295 (getD (entries h s) l noEntry .len) ≡ true = all-at noEntry lengthOk (entries h s) l (acc .lengths) (rw (entries-length s h (acc .counted .framed)) lt) in
-          let most = leb-true (getD (entries h s) l noEntry .len) 4294967295 (both (leb 1 (getD (entries h s) l noEntry .len)) (leb (getD (entries h s) l noEntry .len) 4294967295) ok .1) in
-          let e = panel-entry s h l (acc .counted .framed) .0 in
-          omega arith
-      go (no f) =
-          let past : length (panelOf s .lanes) ≤ l = (let n = panel-lanes s h (acc .counted .framed) in omega arith) in
-          let none : laneAt (panelOf s) l .len ≡ 0 = ap (λ (x : PanelLane). x .len) (List·getD-eq-default (panelOf s .lanes) noLane past) in
-          omega arith
-
   same-k : panelOf s .k ≡ h .k
   unfolding panelOf panelBy
   same-k = ap (λ (x : Header). x .k) (sym (acc .counted .framed .header))
@@ -71,7 +56,7 @@ module _ (s : List ℕ) (h : Header) (acc : Accepted s h) where
   port-low : (l : ℕ) (q : Port) → List·Memᴰ q (laneAt (panelOf s) l .ports) → cutOf q (panelOf s .k) ≤ 4294967295
   port-low l q m =
       let a = lane-ends s h acc l q m in
-      let b = lane-low l in
+      let b = lane-low s h acc l in
       let c = cut-up-to q (panelOf s .k) in
       omega arith
 
@@ -87,7 +72,7 @@ module _ (s : List ℕ) (h : Header) (acc : Accepted s h) where
   pub accepted-bounded : Bounded (panelOf s)
   accepted-bounded =
       record {
-        lanes = lane-low;
+        lanes = lane-low s h acc;
         rows = λ l i. at-low (laneAt (panelOf s) l .ports) (port-low l) i;
         hub = λ i. at-low (panelOf s .hub) (λ q m. port-low (q .source) q (hub-in-lane s h acc q m)) i;
       }

@@ -32,7 +32,8 @@ use Rattle.evaluate.proofs.RoundTrips.{decode-encode, encode-decode}
 use Rattle.words.specs.Inner.{assignmentOf}
 use Rattle.words.proofs.Writing.{segment-words-length}
 use Rattle.letters.specs.Letters.{lettersRefusal}
-use Rattle.assignment.proofs.Given.{Given, given}
+use Rattle.assignment.proofs.Given.{given}
+use Rattle.assignment.proofs.Normal.{given-legal, normal-said, normal-given}
 use Rattle.spell.specs.Spelling.{spellRoute, crop, routesIn, routeIn, spelled, cropNumber, cropRefusal, spellRefusal, spellAnswer, spellOut}
 use Rattle.spell.specs.Theorems.{around, ReadsWord, Switch, switchAt, SameCall, NormalWordsSpellTheSame, CallReadsWord, CallsReadWords, Spells, SpellHolds}
 use Rattle.spell.specs.declared.SpellReply.{SpellReply}
@@ -42,51 +43,9 @@ use Rattle.spell.proofs.Normal.{normal-spells}
 use Rattle.spell.proofs.Switches.{spell-last, spell-past, switches-read-words}
 use Rattle.spell.proofs.Cuts.{NotRefused, not-refused, refused-not, crop-fits, fits-crop, spelled-into}
 
--- ---- the normal form is no longer
-
-joining-short : (s : Segment) (r : Route) → length (joining s r) ≤ suc (length r)
-unfolding joining
-joining-short s [] = omega arith
-joining-short s (t ∷ r) = go (joinable s t) (joining-short (joined s t) r) (joining-short t r)
-  where
-    go : (b : Bool) → length (joining (joined s t) r) ≤ suc (length r) → length (joining t r) ≤ suc (length r) → length (pick b (joining (joined s t) r) (s ∷ joining t r)) ≤ suc (suc (length r))
-    go true x y = omega arith
-    go false x y = omega arith
-
-normal-short : (r : Route) → length (normalize r) ≤ length r
-normal-short [] = omega arith
-normal-short (s ∷ r) = joining-short s r
-
-words-short : (rs : List Route) → length (routeWords (map normalize rs)) ≤ length (routeWords rs)
-words-short [] = omega arith
-words-short (r ∷ rs) =
-    let a = normal-short r in
-    let b = words-short rs in
-    let c = segment-words-length r in
-    let d = segment-words-length (normalize r) in
-    let e = length-append (segmentWords r) (routeWords rs) in
-    let f = length-append (segmentWords (normalize r)) (routeWords (map normalize rs)) in
-    omega arith
-
-encode-short : (a : Assignment) → length (encode (normalForm a)) ≤ length (encode a)
-unfolding encode
-encode-short a = let e = words-short (a .routes) in omega arith
-
--- ---- its spans are sound, and it is its own normal form
+-- ---- its letters
 
 module _ (p : Panel) where
-  sound-routes : (rs : List Route) → Each (SoundSpan p) (flat rs) → Each (SoundSpan p) (flat (map normalize rs))
-  sound-routes [] ok = tt
-  sound-routes (r ∷ rs) ok =
-      let (x, y) = append-each (SoundSpan p) r (flat rs) ok in
-      each-append (SoundSpan p) (normalize r) (flat (map normalize rs)) (sound-normal p r x) (sound-routes rs y)
-
-  twice-routes : (rs : List Route) → Each (SoundSpan p) (flat rs) → map normalize (map normalize rs) ≡ map normalize rs
-  twice-routes [] ok = refl
-  twice-routes (r ∷ rs) ok =
-      let (x, y) = append-each (SoundSpan p) r (flat rs) ok in
-      ap₂ (λ (q : Route) (l : List Route). q ∷ l) (twice r (filled-of p r x)) (twice-routes rs y)
-
   pub spells-slot : (d : List ℕ) (rs : List Route) (slot : ℕ) → Each (SoundSpan p) (flat rs) → spellRoute p d (getD (map normalize rs) slot []) ≡ spellRoute p d (getD rs slot [])
   spells-slot d rs slot ok =
       ap (spellRoute p d) (List·getD-map normalize rs slot []) ∙ normal-spells p d (getD rs slot []) (filled-of p (getD rs slot []) (spans-at p rs slot ok))
@@ -109,48 +68,17 @@ spelled-is p d ws slot from to = refl
 -- ---- the words
 
 module _ (s d ws : List ℕ) (pn : panelRefusal s ≡ 0) (ln : lettersRefusal (panelOf s) d ≡ 0) (gn : givenRefusal (panelOf s) ws .number ≡ 0) where
-  told : Given (panelOf s) ws
-  told = given (panelOf s) ws gn
-
   said : decode ws ≡ got (assignmentOf ws) []
-  said = told .formed .said
-
-  rows : Rows (panelOf s)
-  rows = let t = taken s pn in rows-of s (t .header) (t .accepted)
+  said = given (panelOf s) ws gn .formed .said
 
   legal : SoundSpans (panelOf s) (assignmentOf ws) × Legal (panelOf s) (normalForm (assignmentOf ws))
-  legal = accepted-legal (panelOf s) rows (assignmentOf ws) (told .none)
-
-  normal-is : normalWords ws ≡ encode (normalForm (assignmentOf ws))
-  unfolding normalWords
-  normal-is = ap readNormal said
-
-  normal-said : decode (normalWords ws) ≡ got (normalForm (assignmentOf ws)) []
-  normal-said = ap decode normal-is ∙ decode-encode (normalForm (assignmentOf ws))
-
-  normal-few : length (normalWords ws) ≤ 65536
-  normal-few =
-      let e : length (normalWords ws) ≡ length (encode (normalForm (assignmentOf ws))) = ap length normal-is in
-      let f : length (encode (assignmentOf ws)) ≡ length ws = ap length (encode-decode ws [] (assignmentOf ws) said) in
-      let g = encode-short (assignmentOf ws) in
-      let k = told .few in
-      omega arith
-
-  own-form : normalForm (normalForm (assignmentOf ws)) ≡ normalForm (assignmentOf ws)
-  own-form = ap (λ (rs : List Route). record { family = assignmentOf ws .family; routes = rs }) (twice-routes (panelOf s) (assignmentOf ws .routes) (legal .0))
-
-  normal-given : givenRefusal (panelOf s) (normalWords ws) .number ≡ 0
-  unfolding givenRefusal
-  normal-given =
-      rw (le-leb (length (normalWords ws)) 65536 normal-few, normal-said)
-      (legal-accepted (panelOf s) rows (normalForm (assignmentOf ws)) (sound-routes (panelOf s) (assignmentOf ws .routes) (legal .0))
-      (subst (λ (x : Assignment). Legal (panelOf s) x) (sym own-form) (legal .1)))
+  legal = given-legal s ws pn gn
 
   given-routes : routesIn (decode ws) ≡ assignmentOf ws .routes
   given-routes = ap routesIn said
 
   normal-routes : routesIn (decode (normalWords ws)) ≡ map normalize (assignmentOf ws .routes)
-  normal-routes = ap routesIn normal-said
+  normal-routes = ap routesIn (normal-said s ws pn gn)
 
   same-letters : (slot : ℕ) → spellRoute (panelOf s) d (routeIn (normalWords ws) slot) ≡ spellRoute (panelOf s) d (routeIn ws slot)
   same-letters slot =
@@ -167,7 +95,7 @@ module _ (s d ws : List ℕ) (pn : panelRefusal s ≡ 0) (ln : lettersRefusal (p
 
   same-refusal : (slot from to room : ℕ) → spellRefusal s d (normalWords ws) slot from to room ≡ spellRefusal s d ws slot from to room
   unfolding spellRefusal
-  same-refusal slot from to room = rw (pn, ln, normal-given, gn, same-crop slot from to room)
+  same-refusal slot from to room = rw (pn, ln, normal-given s ws pn gn, gn, same-crop slot from to room)
 
   same-spelled : (slot from to : ℕ) → spelled (panelOf s) d (normalWords ws) slot from to ≡ spelled (panelOf s) d ws slot from to
   unfolding spelled

@@ -109,7 +109,7 @@ pub struct Cursor {
     pub left: usize,
 }
 
-fn is_joinable(s: evaluate::Segment, t: evaluate::Segment) -> bool
+pub fn is_joinable(s: evaluate::Segment, t: evaluate::Segment) -> bool
     ensures { λ r. ⌜ r ≡ joinable s t ⌝ }
 {
     let here = ground::both(
@@ -119,7 +119,7 @@ fn is_joinable(s: evaluate::Segment, t: evaluate::Segment) -> bool
     ground::both(here, is_equal(s.exit(), t.entry()))
 }
 
-fn join(s: evaluate::Segment, t: evaluate::Segment) -> evaluate::Segment
+pub fn join(s: evaluate::Segment, t: evaluate::Segment) -> evaluate::Segment
     ensures { λ r. ⌜ r ≡ joined s t ⌝ }
 {
     let start = lesser(s.start, t.start);
@@ -161,7 +161,7 @@ pub fn normal_at(words: &[u64], at: usize, left: usize) -> Cursor
     }
 }
 
-fn put_segment(out: &mut [u64], to: usize, s: evaluate::Segment)
+pub fn put_segment(out: &mut [u64], to: usize, s: evaluate::Segment)
     requires { ⌜ to + 4 ≤ length (now out) ⌝ }
     ensures { λ _. ⌜ now (out .exit) ≡ sets (now (out .entry)) to (segmentWords (s ∷ [])) ⌝ }
 {

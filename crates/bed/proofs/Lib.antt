@@ -1,0 +1,6 @@
+pub mod Writing
+pub mod Calls
+pub mod Reading
+pub mod Accepted
+pub mod Trips
+pub mod Answers

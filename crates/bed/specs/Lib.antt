@@ -1,0 +1,4 @@
+pub mod Answers
+pub mod Inner
+pub mod Theorems
+pub mod Try

@@ -1,0 +1,3 @@
+pub mod Bed
+pub mod Inner
+pub mod Try
