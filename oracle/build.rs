@@ -1,8 +1,10 @@
 //! Links the archive, where one of its calls is asked for.
 use std::{env, path::PathBuf};
 
-const CALLS: [&str; 10] =
-    ["PANEL", "PORT", "BUCKET", "CHECK", "LIST", "SEARCH", "BOUND", "PLAIN", "LETTERS", "SPELL"];
+const CALLS: [&str; 12] = [
+    "PANEL", "PORT", "BUCKET", "CHECK", "LIST", "SEARCH", "BOUND", "PLAIN", "LETTERS", "SPELL", "WRITE",
+    "READ",
+];
 
 fn main() {
     println!("cargo:rerun-if-env-changed=PANEL_ROUTES_LIB");

@@ -15,9 +15,11 @@ pub enum Kind {
     Plain = 9,
     Letters = 10,
     Spell = 11,
+    Write = 12,
+    Read = 13,
 }
 
-pub const KINDS: [Kind; 10] = [
+pub const KINDS: [Kind; 12] = [
     Kind::Panel,
     Kind::Port,
     Kind::Bucket,
@@ -28,6 +30,8 @@ pub const KINDS: [Kind; 10] = [
     Kind::Plain,
     Kind::Letters,
     Kind::Spell,
+    Kind::Write,
+    Kind::Read,
 ];
 
 impl Kind {
@@ -43,6 +47,8 @@ impl Kind {
             Kind::Plain => "plain",
             Kind::Letters => "letters",
             Kind::Spell => "spell",
+            Kind::Write => "write",
+            Kind::Read => "read",
         }
     }
     pub fn named(name: &str) -> Option<Self> {
@@ -103,6 +109,19 @@ pub enum Call {
         to: u64,
         out: usize,
     },
+    /// An assignment as BED by a table of names; `out` is in bytes.
+    Write {
+        names: Vec<u8>,
+        words: Vec<u64>,
+        out: usize,
+    },
+    /// Lines of BED back into the words they hold.
+    Read {
+        names: Vec<u8>,
+        family: u64,
+        text: Vec<u8>,
+        out: usize,
+    },
 }
 
 impl Call {
@@ -118,6 +137,8 @@ impl Call {
             Call::Plain { .. } => Kind::Plain,
             Call::Letters { .. } => Kind::Letters,
             Call::Spell { .. } => Kind::Spell,
+            Call::Write { .. } => Kind::Write,
+            Call::Read { .. } => Kind::Read,
         }
     }
 
@@ -129,7 +150,11 @@ impl Call {
             | Call::Bucket { .. }
             | Call::Bound { .. }
             | Call::Letters { .. } => vec![],
-            Call::Check { out, .. } | Call::Plain { out, .. } | Call::Spell { out, .. } => vec![out],
+            Call::Check { out, .. }
+            | Call::Plain { out, .. }
+            | Call::Spell { out, .. }
+            | Call::Write { out, .. }
+            | Call::Read { out, .. } => vec![out],
             Call::List { frames, slot, out, .. } => vec![frames, slot, out],
             Call::Search { frames, kept, kept_scores, .. } => vec![frames, kept, kept_scores],
         }
@@ -153,7 +178,7 @@ pub fn filled(words: usize) -> Vec<u64> {
     (0..words).map(filler).collect()
 }
 
-/// Likewise in byte i of a room of bytes: no letter.
+/// Likewise in byte i of a room of bytes: no letter, and none of BED.
 pub fn byte_filler(i: usize) -> u8 {
     0x80 + (i % 127) as u8
 }
@@ -164,7 +189,7 @@ pub fn reply_words(kind: Kind) -> usize {
         Kind::Panel | Kind::Letters => 2,
         Kind::Port => 8,
         Kind::Bucket | Kind::Bound | Kind::Plain => 4,
-        Kind::Check | Kind::Spell => 3,
+        Kind::Check | Kind::Spell | Kind::Write | Kind::Read => 3,
         Kind::List => 6,
         Kind::Search => 16,
     }

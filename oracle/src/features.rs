@@ -60,6 +60,9 @@ pub fn of(image: &[u8], call: &Call, o: &Outcome) -> Vec<&'static str> {
             (_, None) => vec![],
         };
     }
+    if let (35, Call::Read { text, .. }) = (r[0], call) {
+        return vec![fault(text)];
+    }
     if r[0] != 0 {
         return match (r[0], r[1]) {
             (25..=30, 1..) => vec!["in a later route"],
@@ -170,6 +173,16 @@ pub fn of(image: &[u8], call: &Call, o: &Outcome) -> Vec<&'static str> {
             note(r[2] == 1, "one letter");
             note(*out as u64 > r[2], "room to spare");
         }
+        Call::Write { names, words, out } => {
+            bed(names, words, &mut note);
+            note(*out as u64 > r[2], "room to spare");
+        }
+        Call::Read { names, text, out, .. } => {
+            let words = &o.rooms[0][..r[2] as usize];
+            bed(names, words, &mut note);
+            note(*out as u64 > r[2], "room to spare");
+            note(text.len() > 100_000, "a long text");
+        }
         Call::Bound { counts, background } => {
             let background = f64::from_bits(*background);
             let above = counts.iter().filter(|c| **c as f64 > background).count();
@@ -190,6 +203,72 @@ pub fn of(image: &[u8], call: &Call, o: &Outcome) -> Vec<&'static str> {
         }
     }
     found
+}
+
+/// What an assignment shows that was written or read by a table of names.
+fn bed(names: &[u8], words: &[u64], note: &mut impl FnMut(bool, &'static str)) {
+    let all = segments(words);
+    let routes: Vec<Vec<[u64; 4]>> = crate::gen::routes_of(words);
+    let lengths: Vec<usize> = names.split(|b| *b == b'\n').map(<[u8]>::len).collect();
+    note(words[1] > 1, "several routes");
+    note(words[0] > 0, "a later family");
+    note(all.iter().any(|(_, s)| s[3] == 1), "a reverse piece");
+    note(routes.iter().any(|r| joined(r).len() > 1), "a switch");
+    note(routes.iter().any(|r| joined(r).len() < r.len()), "not in normal form");
+    note(all.iter().any(|(_, s)| s[2] > 0xffff_ffff / 2), "numbers over 2^31");
+    note(all.iter().any(|(_, s)| lengths[s[0] as usize] == 1), "a name of 1 byte");
+    note(all.iter().any(|(_, s)| lengths[s[0] as usize] == 64), "a name of 64 bytes");
+    note(lengths.len() > 4095, "4,095 names or more");
+}
+
+/// What about a text is not in the form, by its first such line.
+fn fault(text: &[u8]) -> &'static str {
+    let lines: Vec<&[u8]> = text.split(|b| *b == b'\n').collect();
+    let (last, lines) = lines.split_last().unwrap_or((&text, &[]));
+    let mut slot = 0;
+    for line in lines {
+        let columns: Vec<&[u8]> = line.split(|b| *b == b'\t').collect();
+        let [name, start, end, own, score, strand] = columns[..] else {
+            return match columns.len() {
+                _ if line.is_empty() => "35, an empty line",
+                0..=5 => "35, fewer columns",
+                _ => "35, more columns",
+            };
+        };
+        let digits = own.strip_prefix(b"r").unwrap_or_default();
+        let number = [start, end, digits].into_iter().find(|c| rules::decimal(c).is_none());
+        match () {
+            _ if !rules::is_name(name) => return "35, no name",
+            _ if own.first() != Some(&b'r') => return "35, no r",
+            _ if number.is_some() => return bad_number(number.unwrap_or_default()),
+            _ if score != b"0" => return "35, another score",
+            _ if strand != b"+" && strand != b"-" => return "35, no strand",
+            _ => {}
+        }
+        let next = rules::decimal(digits).unwrap_or(0);
+        match next.checked_sub(slot) {
+            None => return "35, a slot going back",
+            Some(0) => {}
+            Some(1) if *line != lines[0] => {}
+            Some(_) => return "35, a slot left out",
+        }
+        slot = next;
+    }
+    if last.is_empty() {
+        "35, for another reason"
+    } else {
+        "35, no last line feed"
+    }
+}
+
+fn bad_number(column: &[u8]) -> &'static str {
+    match column {
+        [] => "35, an empty number",
+        [b'0', b'0'..=b'9', ..] => "35, a leading zero",
+        _ if column.iter().all(u8::is_ascii_digit) => "35, 2^64 or more",
+        [b'+' | b'-', ..] => "35, a sign",
+        _ => "35, no number",
+    }
 }
 
 fn status(n: u64, note: &mut impl FnMut(bool, &'static str)) {

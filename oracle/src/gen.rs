@@ -1,7 +1,7 @@
 //! Inputs for the calls, each determined by a seed, a kind and a number.
 use crate::{
     calls::{Call, Kind},
-    counts, deep, lettered, plain,
+    counts, deep, lettered, named, plain,
     rules::{needs_of, BudgetWords},
     spec::{PortSpec, Spec},
 };
@@ -304,7 +304,7 @@ fn spoil(rng: &mut Rng, spec: &mut Spec) {
     }
 }
 
-fn word_near(rng: &mut Rng, old: u64) -> u64 {
+pub fn word_near(rng: &mut Rng, old: u64) -> u64 {
     match rng.below(16) {
         0..=2 => old.wrapping_add(1),
         3..=5 => old.wrapping_sub(1),
@@ -777,6 +777,7 @@ pub fn input(seed: u64, kind: Kind, index: u64, size: Size) -> Input {
     let mut spec = match kind {
         Kind::Plain => deep::panel(rng, size),
         Kind::Letters | Kind::Spell => lettered::panel(rng, size, &mut letters),
+        Kind::Write | Kind::Read => named::panel(rng, size),
         _ => sound(rng, size),
     };
     let mut edits = Vec::new();
@@ -810,6 +811,8 @@ pub fn input(seed: u64, kind: Kind, index: u64, size: Size) -> Input {
         Kind::Plain => deep::call(rng, &input.image()),
         Kind::Letters => lettered::letters_call(rng, letters),
         Kind::Spell => lettered::spell_call(rng, &input.spec, letters, size),
+        Kind::Write => named::write_call(rng, &input.spec, size),
+        Kind::Read => named::read_call(rng, &input.spec, size),
         Kind::Bound => unreachable!("it takes no panel"),
     };
     input
@@ -918,6 +921,7 @@ pub fn tiny_calls(spec: &Spec, kind: Kind) -> Vec<Call> {
         }
         Kind::Plain => deep::tiny_calls(&image),
         Kind::Letters | Kind::Spell => lettered::tiny_calls(spec, kind),
+        Kind::Write | Kind::Read => named::tiny_calls(spec, kind),
         Kind::Bound => vec![],
     }
 }

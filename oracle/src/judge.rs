@@ -185,6 +185,43 @@ fn spell(
     vec![number, 0]
 }
 
+/// The normal form of a legal assignment by the original's check, or a refusal from 22 on.
+fn checked(image: &[u8], words: &[u64]) -> Result<Vec<u64>, (u64, u64)> {
+    if !rules::well_formed(words) {
+        return Err((22, 0));
+    }
+    open(image).check(words).expect("the check")
+}
+
+/// An assignment as BED on an accepted panel.
+fn write_bed(image: &[u8], names: &[u8], words: &[u64], out: &mut [u64]) -> Vec<u64> {
+    let Some(names) = rules::names(image, names) else { return vec![34, 0] };
+    if let Err((number, place)) = checked(image, words) {
+        return vec![number, place];
+    }
+    let text = rules::bed(&names, words);
+    if text.len() > out.len() {
+        return vec![37, 0];
+    }
+    out.iter_mut().zip(&text).for_each(|(o, b)| *o = u64::from(*b));
+    vec![0, 0, text.len() as u64]
+}
+
+/// Lines of BED back into words on an accepted panel.
+fn read_bed(image: &[u8], names: &[u8], family: u64, text: &[u8], out: &mut [u64]) -> Vec<u64> {
+    let Some(names) = rules::names(image, names) else { return vec![34, 0] };
+    let Some(lines) = rules::bed_lines(text) else { return vec![35, 0] };
+    let Some(words) = rules::bed_words(&names, family, &lines) else { return vec![36, 0] };
+    if words.len() > out.len() {
+        return vec![37, 0];
+    }
+    if let Err((number, place)) = checked(image, &words) {
+        return vec![number, place];
+    }
+    out[..words.len()].copy_from_slice(&words);
+    vec![0, 0, words.len() as u64]
+}
+
 /// Whether the original takes an assignment though 39 or 40 refuses its panel's letters: it looks at
 /// the ports of its switches alone, and takes small letters and codes besides A, C, G and T. None
 /// where the assignment is refused by other letters too.
@@ -227,8 +264,7 @@ fn answer(image: &[u8], call: &Call, rooms: &mut [Vec<u64>]) -> Vec<u64> {
             vec![0, 0, lo, hi]
         }
         Call::Check { words, out } if *out < words.len() => vec![21, 0],
-        Call::Check { words, .. } if !rules::well_formed(words) => vec![22, 0],
-        Call::Check { words, .. } => match open(image).check(words).expect("the check") {
+        Call::Check { words, .. } => match checked(image, words) {
             Err((number, place)) => vec![number, place],
             Ok(normal) => {
                 rooms[0][..normal.len()].copy_from_slice(&normal);
@@ -292,6 +328,8 @@ fn answer(image: &[u8], call: &Call, rooms: &mut [Vec<u64>]) -> Vec<u64> {
         Call::Spell { letters, words, slot, from, to, .. } => {
             spell(image, letters, words, *slot, *from, *to, &mut rooms[0])
         }
+        Call::Write { names, words, .. } => write_bed(image, names, words, &mut rooms[0]),
+        Call::Read { names, family, text, .. } => read_bed(image, names, *family, text, &mut rooms[0]),
     }
 }
 
@@ -458,6 +496,11 @@ fn assignment_lines(words: &[u64]) -> String {
     assignments(words).iter().map(|one| format!("assignment {}\n", spaced(one))).collect()
 }
 
+/// The first bytes of a room of bytes, which are ASCII.
+fn bytes_of(room: &[u64], n: u64) -> String {
+    room[..n as usize].iter().map(|b| char::from(*b as u8)).collect()
+}
+
 /// An outcome for reading: the reply's words, then those of the rooms that were written.
 pub fn text(image: &[u8], call: &Call) -> String {
     let Some(found) = within_reach(image, call) else { return "too long\n".into() };
@@ -491,9 +534,8 @@ pub fn text(image: &[u8], call: &Call) -> String {
         Call::Search { .. } => spaced(&found.reply) + "\n",
         Call::Bound { .. } if r[0] == 0 => "no bound\n".into(),
         Call::Bound { .. } => format!("bound {:?}\n", f64::from_bits(r[1])),
-        Call::Spell { .. } => {
-            let letters = found.rooms[0][..r[0] as usize].iter().map(|b| char::from(*b as u8));
-            format!("spelled {}\n", letters.collect::<String>())
-        }
+        Call::Spell { .. } => format!("spelled {}\n", bytes_of(&found.rooms[0], r[0])),
+        Call::Write { .. } => bytes_of(&found.rooms[0], r[0]),
+        Call::Read { .. } => format!("words {}\n", spaced(&found.rooms[0][..r[0] as usize])),
     }
 }

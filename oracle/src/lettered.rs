@@ -9,7 +9,7 @@ use crate::{
 use std::collections::BTreeSet;
 
 /// More letters than an assignment of the most words has segments.
-const LONG: u64 = 17_000;
+pub const LONG: u64 = 17_000;
 
 fn read(letters: &[u8], anchor: u64, k: u64, reverse: bool) -> Vec<u8> {
     let own = &letters[anchor as usize..(anchor + k) as usize];
@@ -119,8 +119,9 @@ pub fn letters_call(rng: &mut Rng, mut letters: Vec<u8>) -> Call {
     Call::Letters { letters }
 }
 
-/// Words of an assignment: mostly a legal one with a switch, in pieces; else what the check gets.
-fn words(rng: &mut Rng, spec: &Spec, size: Size) -> Vec<u64> {
+/// Words of an assignment: mostly a legal one with a switch, in pieces, a long one near the bound;
+/// else what the check gets.
+pub fn words(rng: &mut Rng, spec: &Spec, size: Size, long: bool) -> Vec<u64> {
     let walked = gen::walked(spec);
     if walked.is_empty() || rng.one_in(5) {
         let Call::Check { words, .. } = gen::check_call(rng, spec, size) else { unreachable!() };
@@ -131,7 +132,7 @@ fn words(rng: &mut Rng, spec: &Spec, size: Size) -> Vec<u64> {
     let legal = rng.pick(if native { &walked } else { &switched });
     let mut family = legal[0];
     let mut routes = gen::routes_of(&legal);
-    if spec.lanes[0].0 >= LONG {
+    if long {
         gen::long_routes(rng, spec, family, &mut routes);
     }
     for _ in 0..rng.below(4) {
@@ -187,7 +188,7 @@ fn crop(rng: &mut Rng, words: &[u64]) -> [u64; 3] {
 }
 
 pub fn spell_call(rng: &mut Rng, spec: &Spec, mut letters: Vec<u8>, size: Size) -> Call {
-    let words = words(rng, spec, size);
+    let words = words(rng, spec, size, spec.lanes[0].0 >= LONG);
     let [slot, from, to] = crop(rng, &words);
     let needed = to.saturating_sub(from).min(2 * LONG) as usize;
     let out = match rng.below(12) {

@@ -1,4 +1,7 @@
 //! The original Rust as the judge of our answers. README.md says how to use it.
+mod bed;
+pub mod beds;
+pub mod bedtools;
 pub mod calls;
 pub mod compare;
 mod counts;
@@ -13,6 +16,7 @@ pub mod large;
 mod legal;
 mod lettered;
 pub mod library;
+mod named;
 pub mod outside;
 pub mod plain;
 pub mod raised;

@@ -107,6 +107,14 @@ pub struct SpellReply {
     pub letters: u64,
 }
 
+#[repr(C)]
+#[derive(Clone, Copy, Default)]
+pub struct BedReply {
+    pub refusal: u64,
+    pub place: u64,
+    pub length: u64,
+}
+
 pub type CheckPanel = unsafe extern "C" fn(*const u8, usize) -> PanelReply;
 pub type PortAtCut = unsafe extern "C" fn(*const u8, usize, u64, u64, bool) -> PortReply;
 pub type HubBucket = unsafe extern "C" fn(*const u8, usize, *const u8, usize) -> BucketReply;
@@ -154,6 +162,19 @@ pub type Spell = unsafe extern "C" fn(
     *mut u8,
     usize,
 ) -> SpellReply;
+pub type WriteBed =
+    unsafe extern "C" fn(*const u8, usize, *const u8, usize, *const u64, usize, *mut u8, usize) -> BedReply;
+pub type ReadBed = unsafe extern "C" fn(
+    *const u8,
+    usize,
+    *const u8,
+    usize,
+    u64,
+    *const u8,
+    usize,
+    *mut u64,
+    usize,
+) -> BedReply;
 
 /// The calls to compare; one that is not there yet is `None`.
 #[derive(Clone, Copy, Default)]
@@ -168,6 +189,8 @@ pub struct Calls {
     pub plain: Option<PlainList>,
     pub letters: Option<CheckLetters>,
     pub spell: Option<Spell>,
+    pub write: Option<WriteBed>,
+    pub read: Option<ReadBed>,
 }
 
 /// Declares one exported call and puts it into the table, where its feature is on.
@@ -209,6 +232,10 @@ pub fn linked() -> Calls {
     linked!(calls, "spell", spell, panel_routes_spell,
         (*const u8, usize, *const u8, usize, *const u64, usize, u64, u64, u64, *mut u8, usize)
         -> SpellReply);
+    linked!(calls, "write", write, panel_routes_write_bed,
+        (*const u8, usize, *const u8, usize, *const u64, usize, *mut u8, usize) -> BedReply);
+    linked!(calls, "read", read, panel_routes_read_bed,
+        (*const u8, usize, *const u8, usize, u64, *const u8, usize, *mut u64, usize) -> BedReply);
     calls
 }
 
@@ -225,6 +252,16 @@ fn budget(b: &BudgetWords) -> SearchBudget {
 /// Words behind each lent room, which no call may touch.
 const GUARD: usize = 16;
 
+fn filled_bytes(n: usize) -> Vec<u8> {
+    (0..n).map(byte_filler).collect()
+}
+
+/// What was written to a room of bytes, a word for each.
+fn take_bytes(bytes: &[u8], room: &mut [u64]) {
+    let written = (0..bytes.len()).filter(|i| bytes[*i] != byte_filler(*i));
+    written.for_each(|i| room[i] = u64::from(bytes[i]));
+}
+
 impl Calls {
     pub fn has(&self, kind: Kind) -> bool {
         match kind {
@@ -238,6 +275,8 @@ impl Calls {
             Kind::Plain => self.plain.is_some(),
             Kind::Letters => self.letters.is_some(),
             Kind::Spell => self.spell.is_some(),
+            Kind::Write => self.write.is_some(),
+            Kind::Read => self.read.is_some(),
         }
     }
 
@@ -333,7 +372,7 @@ impl Calls {
                 }
                 Call::Spell { letters, words, slot, from, to, out } => {
                     let (own, given) = (letters.clone(), words.clone());
-                    let mut bytes: Vec<u8> = (0..*out + GUARD).map(byte_filler).collect();
+                    let mut bytes = filled_bytes(*out + GUARD);
                     let r = self.spell.unwrap()(
                         p,
                         n,
@@ -348,9 +387,29 @@ impl Calls {
                         *out,
                     );
                     inputs_kept &= own == *letters && given == *words;
-                    let written = (0..bytes.len()).filter(|i| bytes[*i] != byte_filler(*i));
-                    written.for_each(|i| rooms[0][i] = u64::from(bytes[i]));
+                    take_bytes(&bytes, &mut rooms[0]);
                     vec![r.refusal, r.place, r.letters]
+                }
+                Call::Write { names, words, out } => {
+                    let (own, given) = (names.clone(), words.clone());
+                    let mut bytes = filled_bytes(*out + GUARD);
+                    let room = bytes.as_mut_ptr();
+                    let (table, table_len) = (own.as_ptr(), own.len());
+                    let r =
+                        self.write.unwrap()(p, n, table, table_len, given.as_ptr(), given.len(), room, *out);
+                    inputs_kept &= own == *names && given == *words;
+                    take_bytes(&bytes, &mut rooms[0]);
+                    vec![r.refusal, r.place, r.length]
+                }
+                Call::Read { names, family, text, out } => {
+                    let (own, given) = (names.clone(), text.clone());
+                    let room = rooms[0].as_mut_ptr();
+                    let (table, table_len) = (own.as_ptr(), own.len());
+                    let (lines, lines_len) = (given.as_ptr(), given.len());
+                    let read = self.read.unwrap();
+                    let r = read(p, n, table, table_len, *family, lines, lines_len, room, *out);
+                    inputs_kept &= own == *names && given == *text;
+                    vec![r.refusal, r.place, r.length]
                 }
             }
         };

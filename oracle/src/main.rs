@@ -1,5 +1,6 @@
 //! The original Rust as the judge of our answers. README.md says how to use it.
 use oracle::{
+    beds, bedtools,
     calls::{Call, Kind, KINDS},
     compare::{self, Run},
     crops, examples, judge, large, outside, raised, record, rules, sample, sentence,
@@ -93,6 +94,14 @@ fn main() {
             let out = to.saturating_sub(from) as usize;
             show(image, Call::Spell { letters: letters.into(), words, slot, from, to, out: out.min(1 << 30) })
         }
+        ["write", image, names, ref words @ ..] => {
+            let words: Vec<u64> = words.iter().map(|w| number(w)).collect();
+            show(image, Call::Write { names: fs::read(names).unwrap(), out: 120 * words.len(), words })
+        }
+        ["read", image, names, family, text] => {
+            let [names, text] = [names, text].map(|file| fs::read(file).unwrap());
+            show(image, Call::Read { names, family: number(family), out: 2 + text.len(), text })
+        }
         ["large", ports] => large::check(run.seed, number(ports), &run.subject()),
         ["image"] => {
             let job = input();
@@ -128,6 +137,8 @@ fn main() {
         ["discarded"] => compare::discarded(&run).is_ok(),
         ["raised"] => raised::pairs(&run).is_ok(),
         ["crops"] => crops::hold(&run).is_ok(),
+        ["beds"] => beds::hold(&run).is_ok(),
+        ["bedtools"] => bedtools::hold(&run).is_ok(),
         ["sentence"] => sentence::hold(&run).is_ok(),
         ["outside"] => {
             outside::show();

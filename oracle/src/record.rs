@@ -44,6 +44,12 @@ pub fn arguments(call: &Call) -> Vec<u64> {
             [counted(letters), vec![*out as u64, *slot, *from, *to, words.len() as u64], words.clone()]
                 .concat()
         }
+        Call::Write { names, words, out } => {
+            [counted(names), vec![*out as u64, words.len() as u64], words.clone()].concat()
+        }
+        Call::Read { names, family, text, out } => {
+            [counted(names), vec![*out as u64, *family], counted(text)].concat()
+        }
     }
 }
 
@@ -107,6 +113,19 @@ fn call(kind: u64, words: &[u64]) -> Option<Call> {
             },
             _ => return None,
         },
+        (12, words) => match uncounted(words)? {
+            (names, [out, n, words @ ..]) if words.len() as u64 == *n => {
+                Call::Write { names, words: words.to_vec(), out: *out as usize }
+            }
+            _ => return None,
+        },
+        (13, words) => match uncounted(words)? {
+            (names, [out, family, text @ ..]) => match uncounted(text)? {
+                (text, []) => Call::Read { names, family: *family, text, out: *out as usize },
+                _ => return None,
+            },
+            _ => return None,
+        },
         _ => return None,
     })
 }
@@ -120,11 +139,11 @@ pub fn expected(image: &[u8], call: &Call, o: &Outcome) -> Vec<u64> {
     match call {
         Call::Panel | Call::Port { .. } | Call::Bucket { .. } | Call::Bound { .. } | Call::Letters { .. } => {
         }
-        Call::Spell { .. } => {
-            let letters: Vec<u8> = o.rooms[0][..o.reply[2] as usize].iter().map(|b| *b as u8).collect();
-            words.extend(as_words(&letters));
+        Call::Spell { .. } | Call::Write { .. } => {
+            let written: Vec<u8> = o.rooms[0][..o.reply[2] as usize].iter().map(|b| *b as u8).collect();
+            words.extend(as_words(&written));
         }
-        Call::Check { .. } => words.extend(&o.rooms[0][..o.reply[2] as usize]),
+        Call::Check { .. } | Call::Read { .. } => words.extend(&o.rooms[0][..o.reply[2] as usize]),
         Call::Plain { .. } => words.extend(&o.rooms[0][..o.reply[3] as usize]),
         Call::List { budget, .. } => {
             let needed = rules::needs(image, budget).frames;

@@ -1,7 +1,7 @@
 //! What the original has no numbers for, read from documents 01 and 02 as plainly as possible:
-//! refusals 1 to 13, 16, 21, 22, 37, 39 to 41 and 43, and the rooms. Whole numbers are u128, so that no sum
+//! refusals 1 to 13, 16, 21, 22, 34 to 37, 39 to 41 and 43, and the rooms. Whole numbers are u128, so that no sum
 //! of u64 words can wrap; nothing here is shared with the stand-in.
-use std::collections::HashSet;
+use std::collections::{HashMap, HashSet};
 
 pub fn word_at(image: &[u8], at: usize) -> u64 {
     u64::from_le_bytes(image[at..at + 8].try_into().unwrap())
@@ -185,6 +185,11 @@ pub fn lanes_and_k(image: &[u8]) -> (u64, u64) {
 
 /// Whether words are an assignment's, within the bound (22).
 pub fn well_formed(words: &[u64]) -> bool {
+    words.len() <= 65_536 && is_assignment(words)
+}
+
+/// Whether words are an assignment's, however many.
+pub fn is_assignment(words: &[u64]) -> bool {
     let mut at = 0;
     let mut next = || {
         at += 1;
@@ -204,7 +209,7 @@ pub fn well_formed(words: &[u64]) -> bool {
         }
         Some(())
     };
-    words.len() <= 65_536 && read().is_some() && at == words.len()
+    read().is_some() && at == words.len()
 }
 
 /// The segments of each route of well-formed words.
@@ -278,6 +283,88 @@ pub fn switch_wrong(image: &[u8], letters: &[u8], normal: &[u64]) -> bool {
     let leaves = |s: &[u64; 4]| wrong(s[0], if s[3] == 1 { s[1] } else { s[2] }, s[3]);
     let enters = |s: &[u64; 4]| wrong(s[0], if s[3] == 1 { s[2] } else { s[1] }, s[3]);
     routes(normal).iter().any(|route| route.windows(2).any(|w| leaves(&w[0]) || enters(&w[1])))
+}
+
+/// 1 to 64 printing ASCII bytes without a space.
+pub fn is_name(name: &[u8]) -> bool {
+    (1..=64).contains(&name.len()) && name.iter().all(|b| (33..=126).contains(b))
+}
+
+/// The lines of a text that ends with the line feed of its last one.
+fn lines(text: &[u8]) -> Option<Vec<&[u8]>> {
+    let mut lines: Vec<&[u8]> = text.split(|b| *b == b'\n').collect();
+    lines.pop().filter(|rest| rest.is_empty())?;
+    Some(lines)
+}
+
+/// The names of an accepted panel's lanes; none where their table is bad (34).
+pub fn names<'a>(image: &[u8], table: &'a [u8]) -> Option<Vec<&'a [u8]>> {
+    let names = lines(table)?;
+    let different: HashSet<_> = names.iter().collect();
+    let fits = names.len() as u64 == lanes_and_k(image).0 && different.len() == names.len();
+    Some(names).filter(|names| fits && names.iter().all(|n| is_name(n)))
+}
+
+/// Well-formed words as lines of BED, their lanes named.
+pub fn bed(names: &[&[u8]], words: &[u64]) -> Vec<u8> {
+    let mut text = Vec::new();
+    for (slot, route) in routes(words).into_iter().enumerate() {
+        for [lane, start, end, reverse] in route {
+            let strand = if reverse == 1 { '-' } else { '+' };
+            text.extend(names[lane as usize]);
+            text.extend(format!("\t{start}\t{end}\tr{slot}\t0\t{strand}\n").into_bytes());
+        }
+    }
+    text
+}
+
+/// What a line of BED says.
+pub struct BedLine<'a> {
+    pub name: &'a [u8],
+    pub slot: u64,
+    start: u64,
+    end: u64,
+    reverse: u64,
+}
+
+/// A number below 2^64 in decimal without leading zeros.
+pub fn decimal(column: &[u8]) -> Option<u64> {
+    let digits = std::str::from_utf8(column).ok().filter(|c| c.bytes().all(|b| b.is_ascii_digit()))?;
+    digits.parse().ok().filter(|_| digits == "0" || !digits.starts_with('0'))
+}
+
+fn bed_line(line: &[u8]) -> Option<BedLine<'_>> {
+    let columns: Vec<&[u8]> = line.split(|b| *b == b'\t').collect();
+    let [name, start, end, slot, b"0", strand] = columns[..] else { return None };
+    let reverse = [&b"+"[..], b"-"].iter().position(|s| *s == strand)? as u64;
+    let (start, end, slot) = (decimal(start)?, decimal(end)?, decimal(slot.strip_prefix(b"r")?)?);
+    Some(BedLine { name, start, end, slot, reverse }).filter(|_| is_name(name))
+}
+
+/// The lines of a text, each in the form and their slots from 0 without a gap; else none (35).
+pub fn bed_lines(text: &[u8]) -> Option<Vec<BedLine<'_>>> {
+    let all: Vec<BedLine> = lines(text)?.into_iter().map(bed_line).collect::<Option<_>>()?;
+    let first = all.first().map_or(true, |l| l.slot == 0);
+    let on = |w: &[BedLine]| w[0].slot == w[1].slot || u128::from(w[0].slot) + 1 == u128::from(w[1].slot);
+    Some(all).filter(|all| first && all.windows(2).all(on))
+}
+
+/// The words that lines hold; none where a name is not in the table (36).
+pub fn bed_words(names: &[&[u8]], family: u64, lines: &[BedLine]) -> Option<Vec<u64>> {
+    let numbers: HashMap<&[u8], u64> = names.iter().copied().zip(0..).collect();
+    let mut routes: Vec<Vec<[u64; 4]>> = Vec::new();
+    for line in lines {
+        if line.slot == routes.len() as u64 {
+            routes.push(vec![]);
+        }
+        routes.last_mut()?.push([*numbers.get(line.name)?, line.start, line.end, line.reverse]);
+    }
+    let mut words = vec![family, routes.len() as u64];
+    for route in routes {
+        words.push(route.len() as u64);
+        words.extend(route.concat());
+    }
+    Some(words)
 }
 
 /// A job of the walk program, or 16.

@@ -391,7 +391,6 @@ fn letters_on_e() -> Vec<(Spec, Call)> {
 /// the order of the refusals.
 fn spellings_on_e() -> Vec<Call> {
     const MAX: u64 = u64::MAX;
-    const MOSAIC: [u64; 15] = [0, 1, 3, 0, 0, 4, 0, 1, 6, 8, 0, 0, 7, 10, 0];
     let call = |letters: &[u8], words: &[u64], slot, from, to, out| Call::Spell {
         letters: letters.into(),
         words: words.into(),
@@ -437,6 +436,174 @@ fn spellings_on_e() -> Vec<Call> {
     all.push(call(&letters_e(3, b'C'), &[], 0, 0, 9, 9));
     all.push(call(LETTERS_E, &[], 1, 9, 0, 0));
     all.push(call(LETTERS_E, &[0, 1, 1, 0, 0, 9, 0], 1, 9, 0, 0));
+    all
+}
+
+/// Panel E's names, and its mosaic in words and as BED.
+const NAMES_E: &[u8] = b"left\nright\n";
+const MOSAIC: [u64; 15] = [0, 1, 3, 0, 0, 4, 0, 1, 6, 8, 0, 0, 7, 10, 0];
+const MOSAIC_BED: &str = "left\t0\t4\tr0\t0\t+\nright\t6\t8\tr0\t0\t+\nleft\t7\t10\tr0\t0\t+\n";
+
+/// Tables of panel E's names by the rows of 02's item 2, good ones last.
+fn tables_e() -> Vec<Vec<u8>> {
+    let [long, longest] = [65, 64].map(|n| "x".repeat(n));
+    let mut all: Vec<Vec<u8>> = [
+        "",
+        "\n",
+        "\n\n",
+        "left\n",
+        "left\nright",
+        "left\nright\n\n",
+        "left\nright\nmore\n",
+        "left\nright\nx",
+        "left\n\nright\n",
+        "left\n\n",
+        "\nright\n",
+        "left\nleft\n",
+        "le ft\nright\n",
+        "left\nright \n",
+        "left\nri\tght\n",
+        "left\r\nright\r\n",
+        "le\u{7f}ft\nright\n",
+        "le\u{e9}ft\nright\n",
+        "le\0ft\nright\n",
+    ]
+    .map(|t| t.as_bytes().to_vec())
+    .to_vec();
+    all.push(format!("left\n{long}\n").into());
+    all.push(format!("left\n{longest}\n").into());
+    all.extend(["!\n~\n", "a\nb\n", "r0\n0\n", "#\n+\n", "a\nab\n"].map(|t| t.as_bytes().to_vec()));
+    // One bucket of the hash, and the same hash.
+    all.extend([&b"!!!\n^.R\n"[..], b"^.R\n!!!\n", NAMES_E].map(<[u8]>::to_vec));
+    all
+}
+
+/// Panel E's mosaic by every table, each refusal of the check with its first assignment in `checks_e`,
+/// every room near the text's length, and the order of the refusals.
+fn writes_on_e() -> Vec<Call> {
+    let call =
+        |names: &[u8], words: &[u64], out| Call::Write { names: names.into(), words: words.into(), out };
+    let length = MOSAIC_BED.len();
+    let mut all: Vec<Call> = tables_e().iter().map(|t| call(t, &MOSAIC, 200)).collect();
+    all.extend([0, 1, length - 1, length, length + 1, 100].map(|out| call(NAMES_E, &MOSAIC, out)));
+    let image = Spec::panel_e().image();
+    let mut seen = BTreeSet::new();
+    for check in checks_e() {
+        let number = judge::outcome(&image, &check).reply[0];
+        let Call::Check { words, .. } = check else { unreachable!() };
+        if number == 0 || number != 21 && seen.insert(number) {
+            all.push(call(NAMES_E, &words, 100));
+            // The check's before 37.
+            all.push(call(NAMES_E, &words, 0));
+        }
+    }
+    // 34 before 22.
+    all.push(call(b"left\n", &[], 0));
+    all
+}
+
+/// The mosaic's text with one thing changed, column by column.
+fn texts_e() -> Vec<String> {
+    let mut all = vec![MOSAIC_BED.to_string(), String::new(), "\n".into(), "left".into()];
+    let big = (1u128 << 64).to_string();
+    let numbers = ["", "00", "06", "006", "+6", "-6", "-0", "6 ", " 6", "6.0", "0x6", "6:", "/6", "5", "7"];
+    let wide = [u64::MAX.to_string(), big, "18446744073709551622".into(), "6".repeat(40)];
+    let numbers: Vec<String> = numbers.iter().map(|n| n.to_string()).chain(wide).collect();
+    let names = ["", "righ", "rights", "Right", "left", "ri ght", "right\r", "\u{7f}", "#right", "r\0"];
+    let long = [64, 65].map(|n| "x".repeat(n));
+    let own = |texts: &[&str]| texts.iter().map(|t| t.to_string()).collect::<Vec<_>>();
+    let slots = own(&["", "r", "0", "R0", "rr0", "r 0", "r1", "r2", "r-1", "0r", "r00"]);
+    let columns: [Vec<String>; 6] = [
+        own(&names).into_iter().chain(long).collect(),
+        numbers.clone(),
+        numbers.clone(),
+        slots.into_iter().chain(numbers.iter().skip(1).map(|n| format!("r{n}"))).collect(),
+        own(&["", "00", "1", "+0", "0 ", "."]),
+        own(&["", ".", "+-", "++", "+ ", "-", "+\r"]),
+    ];
+    let lines: Vec<&str> = MOSAIC_BED.split_inclusive('\n').collect();
+    let second: Vec<&str> = lines[1].trim_end().split('\t').collect();
+    for (i, others) in columns.iter().enumerate() {
+        for other in others {
+            let mut line = second.clone();
+            line[i] = other;
+            all.push(format!("{}{}\n{}", lines[0], line.join("\t"), lines[2]));
+        }
+    }
+    let others = [
+        "".into(),
+        lines[1].replace('\t', " "),
+        lines[1].replace("\t+", "\t+\t"),
+        lines[1].replace("\t+", "\t+\tx"),
+        lines[1].replace("\t+", ""),
+        format!("\t{}", lines[1]),
+        "\n".into(),
+        "#\n".into(),
+        format!("# a comment\n{}", lines[1]),
+        format!("track name=x\n{}", lines[1]),
+        format!("\n{}", lines[1]),
+        lines[1].trim_end().into(),
+        format!("{}{}", lines[1], lines[1]),
+        format!("{}{}", lines[1].replace("8", "7"), lines[1].replace("6", "7")),
+    ];
+    all.extend(others.map(|line| format!("{}{line}{}", lines[0], lines[2])));
+    for order in [[1, 0, 2], [0, 2, 1], [2, 1, 0]] {
+        all.push(order.map(|i| lines[i]).concat());
+    }
+    all.extend([1, 2, 30].map(|n| MOSAIC_BED[..MOSAIC_BED.len() - n].to_string()));
+    all.push(format!("{MOSAIC_BED}\n"));
+    all.push(format!("{MOSAIC_BED} "));
+    all.push(MOSAIC_BED.replace('\n', "\r\n"));
+    all.push(MOSAIC_BED.replace("r0", "r1"));
+    all
+}
+
+/// Every text, the mosaic's by every table and in every room near its words, other families, and the
+/// order of the refusals.
+fn reads_on_e() -> Vec<Call> {
+    const MAX: u64 = u64::MAX;
+    let call = |names: &[u8], family, text: &str, out| Call::Read {
+        names: names.into(),
+        family,
+        text: text.into(),
+        out,
+    };
+    let mut all: Vec<Call> = texts_e().iter().map(|text| call(NAMES_E, 0, text, 24)).collect();
+    for table in tables_e() {
+        let own: Vec<&[u8]> = table.split(|b| *b == b'\n').collect();
+        let named = |name: &str, i: usize| MOSAIC_BED.replace(name, &String::from_utf8_lossy(own[i]));
+        if own.len() == 3 {
+            let text = named("left", 0).replace("right", &String::from_utf8_lossy(own[1]));
+            all.push(call(&table, 0, &text, 24));
+        }
+        all.push(call(&table, 0, MOSAIC_BED, 24));
+    }
+    all.extend([0, 1, 14, 15, 16].map(|out| call(NAMES_E, 0, MOSAIC_BED, out)));
+    all.extend([1, MAX].map(|family| call(NAMES_E, family, MOSAIC_BED, 15)));
+    all.extend([0, 1, 2, 3].map(|out| call(NAMES_E, 0, "", out)));
+    all.push(call(NAMES_E, 1, "", 2));
+    // Each refusal of the check, as lines; then 34 before 35, 35 before 36, 36 and 37 before the check's.
+    for text in [
+        "left\t0\t10\tr0\t0\t+\n",
+        "left\t0\t4\tr0\t0\t+\nleft\t4\t10\tr0\t0\t+\n",
+        "left\t0\t10\tr0\t0\t+\nright\t0\t10\tr1\t0\t+\n",
+        "left\t10\t10\tr0\t0\t+\n",
+        "left\t0\t11\tr0\t0\t+\n",
+        "left\t0\t9\tr0\t0\t+\n",
+        "left\t0\t10\tr0\t0\t-\n",
+        "right\t0\t10\tr0\t0\t+\n",
+        "left\t0\t5\tr0\t0\t+\nright\t6\t10\tr0\t0\t+\nleft\t7\t10\tr0\t0\t+\n",
+        "left\t0\t4\tr0\t0\t+\nright\t5\t8\tr0\t0\t+\nleft\t7\t10\tr0\t0\t+\n",
+        "left\t0\t4\tr0\t0\t+\nleft\t7\t10\tr0\t0\t+\n",
+        "left\t0\t7\tr0\t0\t+\nleft\t4\t10\tr0\t0\t+\n",
+    ] {
+        all.push(call(NAMES_E, 0, text, 20));
+        all.push(call(NAMES_E, 0, text, 6));
+    }
+    all.push(call(b"left\n", 0, "x", 0));
+    all.push(call(NAMES_E, 0, "other\t0\t4\tr0\t0\t+\nleft\t4\t10\tr0\t0\t.\n", 0));
+    all.push(call(NAMES_E, 9, "other\t0\t4\tr0\t0\t+\n", 0));
+    all.push(call(NAMES_E, 9, "left\t0\t4\tr0\t0\t+\n", 0));
     all
 }
 
@@ -490,6 +657,14 @@ fn sample(seed: u64, kind: Kind) -> Vec<Chosen> {
         Kind::Spell => {
             all.extend(spellings_on_e().into_iter().map(|call| chosen(e.image(), call)));
             all.extend(from_random(seed, kind, 1, 20_000));
+        }
+        Kind::Write => {
+            all.extend(writes_on_e().into_iter().map(|call| chosen(e.image(), call)));
+            all.extend(from_random(seed, kind, 5, 20_000));
+        }
+        Kind::Read => {
+            all.extend(reads_on_e().into_iter().map(|call| chosen(e.image(), call)));
+            all.extend(from_random(seed, kind, 5, 20_000));
         }
     }
     all

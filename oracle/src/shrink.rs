@@ -332,17 +332,7 @@ fn calls(call: &Call) -> Vec<Call> {
                 with(&|c| c.clone_from(&call));
             };
             let crop = [*slot, *from, *to];
-            segments_dropped(words).iter().for_each(|w| put(letters, w, crop, *out));
-            if words.len() < 300 {
-                thinned(words).iter().for_each(|w| put(letters, w, crop, *out));
-                for i in 0..words.len() {
-                    for x in below(words[i]) {
-                        let mut words = words.clone();
-                        words[i] = x;
-                        put(letters, &words, crop, *out);
-                    }
-                }
-            }
+            fewer_words(words).iter().for_each(|w| put(letters, w, crop, *out));
             for (i, &old) in crop.iter().enumerate() {
                 for x in below(old) {
                     let mut crop = crop;
@@ -353,6 +343,43 @@ fn calls(call: &Call) -> Vec<Call> {
             }
             lengths(*out).into_iter().for_each(|x| put(letters, words, crop, x));
             plainer(letters).iter().for_each(|l| put(l, words, crop, *out));
+        }
+        Call::Write { names, words, out } => {
+            let mut put = |names: &[u8], words: &[u64], out: usize| {
+                let call = Call::Write { names: names.to_vec(), words: words.to_vec(), out };
+                with(&|c| c.clone_from(&call));
+            };
+            for w in fewer_words(words) {
+                put(names, &w, *out);
+            }
+            for n in plainer_names(names) {
+                put(&n, words, *out);
+            }
+            lengths(*out).into_iter().for_each(|x| put(names, words, x));
+        }
+        Call::Read { names, family, text, out } => {
+            let mut put = |names: &[u8], family: u64, text: &[u8], out: usize| {
+                let call = Call::Read { names: names.to_vec(), family, text: text.to_vec(), out };
+                with(&|c| c.clone_from(&call));
+            };
+            let lines: Vec<&[u8]> = text.split_inclusive(|b| *b == b'\n').collect();
+            for fewer in thinned(&lines) {
+                put(names, *family, &fewer.concat(), *out);
+            }
+            if text.len() < 1000 {
+                for shorter in thinned(text) {
+                    put(names, *family, &shorter, *out);
+                }
+            }
+            for (old, new) in renamed(names) {
+                let swap = |n: &[u8]| if n == old { new.clone() } else { n.to_vec() };
+                put(&in_lines(names, &swap), *family, &in_first_columns(text, &swap), *out);
+            }
+            for n in plainer_names(names) {
+                put(&n, *family, text, *out);
+            }
+            below(*family).into_iter().for_each(|x| put(names, x, text, *out));
+            lengths(*out).into_iter().for_each(|x| put(names, *family, text, x));
         }
         Call::Bound { counts, background } => {
             for fewer in thinned(counts) {
@@ -382,6 +409,59 @@ fn calls(call: &Call) -> Vec<Call> {
                 }
             }
         }
+    }
+    out
+}
+
+/// Assignment words with some left out, or one smaller.
+fn fewer_words(words: &[u64]) -> Vec<Vec<u64>> {
+    let mut out = segments_dropped(words);
+    if words.len() < 300 {
+        out.extend(thinned(words));
+        for i in 0..words.len() {
+            for x in below(words[i]) {
+                out.push(words.to_vec());
+                out.last_mut().unwrap()[i] = x;
+            }
+        }
+    }
+    out
+}
+
+/// Every line changed, its line feed kept.
+fn in_lines(text: &[u8], change: &dyn Fn(&[u8]) -> Vec<u8>) -> Vec<u8> {
+    text.split(|b| *b == b'\n').map(change).collect::<Vec<_>>().join(&b'\n')
+}
+
+/// The bytes before the first tab of every line changed.
+fn in_first_columns(text: &[u8], change: &dyn Fn(&[u8]) -> Vec<u8>) -> Vec<u8> {
+    in_lines(text, &|line| {
+        let at = line.iter().position(|b| *b == b'\t').unwrap_or(0);
+        [&change(&line[..at])[..], &line[at..]].concat()
+    })
+}
+
+/// Names of a table, each with a shorter or plainer one that is not there.
+fn renamed(names: &[u8]) -> Vec<(&[u8], Vec<u8>)> {
+    let all: Vec<&[u8]> = names.split(|b| *b == b'\n').take(40).collect();
+    let mut out = Vec::new();
+    for (i, &name) in all.iter().enumerate().filter(|(_, n)| !n.is_empty()) {
+        let plain = vec![b'a' + (i % 26) as u8];
+        let half = name[..name.len().div_ceil(2)].to_vec();
+        out.extend([plain, half].into_iter().filter(|n| !all.contains(&&n[..])).map(|n| (name, n)));
+    }
+    out
+}
+
+/// Tables with a line or some bytes left out, or a name made plainer.
+fn plainer_names(names: &[u8]) -> Vec<Vec<u8>> {
+    let lines: Vec<&[u8]> = names.split_inclusive(|b| *b == b'\n').collect();
+    let mut out: Vec<Vec<u8>> = thinned(&lines).into_iter().map(|l| l.concat()).collect();
+    if names.len() < 300 {
+        out.extend(thinned(names));
+    }
+    for (old, new) in renamed(names) {
+        out.push(in_lines(names, &|n| if n == old { new.clone() } else { n.to_vec() }));
     }
     out
 }
@@ -452,6 +532,30 @@ fn lanes_with_letters(input: &Input) -> Vec<Input> {
     out
 }
 
+/// A panel without a lane, and its name and the segments' lanes in step.
+fn lanes_with_names(input: &Input) -> Vec<Input> {
+    let (Call::Write { names, .. } | Call::Read { names, .. }) = &input.call else { return vec![] };
+    let lines: Vec<&[u8]> = names.split_inclusive(|b| *b == b'\n').collect();
+    let mut out = Vec::new();
+    for lane in 0..input.spec.lanes.len().min(lines.len()) {
+        if input.spec.lanes.len() == 1 {
+            break;
+        }
+        let mut i = Input { spec: without_lane(&input.spec, lane as u64), ..input.clone() };
+        let rest = without(&lines, lane, 1).concat();
+        match &mut i.call {
+            Call::Write { names, words, .. } => {
+                *names = rest;
+                *words = segments_changed(words, |s| s[0] -= u64::from(s[0] > lane as u64));
+            }
+            Call::Read { names, .. } => *names = rest,
+            _ => unreachable!(),
+        }
+        out.push(i);
+    }
+    out
+}
+
 /// Assignments with a stretch of segments left out and their count put right.
 fn segments_dropped(words: &[u64]) -> Vec<Vec<u64>> {
     let mut out = Vec::new();
@@ -479,7 +583,7 @@ fn segments_dropped(words: &[u64]) -> Vec<Vec<u64>> {
 /// Changes that keep a panel and its call in step: k with the word asked for, anchors with
 /// the cut asked for.
 fn both(input: &Input) -> Vec<Input> {
-    let mut out = lanes_with_letters(input);
+    let mut out = [lanes_with_letters(input), lanes_with_names(input)].concat();
     if let Call::Bucket { word } = &input.call {
         for k in below(input.spec.k).into_iter().filter(|k| *k > 0) {
             let mut i = input.clone();

@@ -1,6 +1,6 @@
 //! The plain Rust behind the C signatures, for comparing before the library has them.
 use crate::{
-    engine,
+    bed, engine,
     library::*,
     plain::{self, Budget, Panel, Refusal},
     spelling,
@@ -19,6 +19,8 @@ pub fn calls() -> Calls {
         plain: Some(plain_list),
         letters: Some(check_letters),
         spell: Some(spell),
+        write: Some(write_bed),
+        read: Some(read_bed),
     }
 }
 
@@ -211,5 +213,42 @@ unsafe extern "C" fn spell(
     match panel.and_then(|p| spelling::spell(&p, letters, words, slot, from, to, lend(out, out_len))) {
         Err(r) => refused!(SpellReply, r),
         Ok(letters) => SpellReply { letters, ..Default::default() },
+    }
+}
+
+unsafe extern "C" fn write_bed(
+    image: *const u8,
+    len: usize,
+    names: *const u8,
+    names_len: usize,
+    words: *const u64,
+    words_len: usize,
+    out: *mut u8,
+    out_len: usize,
+) -> BedReply {
+    let (names, words) = (read(names, names_len), read(words, words_len));
+    let panel = Panel::parse(read(image, len));
+    match panel.and_then(|p| bed::write(&p, names, words, lend(out, out_len))) {
+        Err(r) => refused!(BedReply, r),
+        Ok(length) => BedReply { length, ..Default::default() },
+    }
+}
+
+unsafe extern "C" fn read_bed(
+    image: *const u8,
+    len: usize,
+    names: *const u8,
+    names_len: usize,
+    family: u64,
+    text: *const u8,
+    text_len: usize,
+    out: *mut u64,
+    out_len: usize,
+) -> BedReply {
+    let (names, text) = (read(names, names_len), read(text, text_len));
+    let panel = Panel::parse(read(image, len));
+    match panel.and_then(|p| bed::read(&p, names, family, text, lend(out, out_len))) {
+        Err(r) => refused!(BedReply, r),
+        Ok(length) => BedReply { length, ..Default::default() },
     }
 }
