@@ -41,6 +41,9 @@ typedef struct { uint64_t refusal, place, written, words; } plain_reply;
 /* letters: how many bytes of out were written */
 typedef struct { uint64_t refusal, place, letters; } spell_reply;
 
+/* length: how many bytes (writing) or words (reading) of out were written */
+typedef struct { uint64_t refusal, place, length; } bed_reply;
+
 /* given 1: a bound; refusal 0 and given 0: none, since the running bound stopped being finite */
 typedef struct { uint64_t refusal, place, given; double bound; } bound_reply;
 
@@ -65,6 +68,17 @@ panel_reply  panel_routes_check_letters(const uint8_t *image, size_t image_len, 
    37: out shorter than to - from; out unchanged. The normal form of the words spells the same */
 spell_reply  panel_routes_spell(const uint8_t *image, size_t image_len, const uint8_t *letters, size_t letters_len, const uint64_t *words, size_t words_len,
                                 uint64_t slot, uint64_t from, uint64_t to, uint8_t *out, size_t out_len);
+/* routes as BED. names: a line for each lane, in the lanes' order, each ended by a line feed, the last too, and of 1 to 64 bytes from 33 to 126, all
+   different; else refusal 34. Of 34 to 37 the place is 0, and a refusal leaves out unchanged; the rest of out stays.
+   out begins with a line for each segment as given, route by route: name, start, end, r and the slot, 0, + or -, apart by tabs and ended by a line feed.
+   Refusals 1 to 8, 34, then 22 to 31 of the words, 37: out shorter than the text. A line of a legal assignment has at most 95 bytes */
+bed_reply    panel_routes_write_bed(const uint8_t *image, size_t image_len, const uint8_t *names, size_t names_len, const uint64_t *words, size_t words_len,
+                                    uint8_t *out, size_t out_len);
+/* such lines back into the words they hold, with the family given: out begins with family, route count, then per route its segment count and its segments
+   as the lines have them. Refusals 1 to 8, 34, then of the whole text 35: a line not in this form, numbers below 2^64 without leading zeros, slots
+   from 0 without a gap, 36: a name not in the table, 37: out shorter than the words, then 22 to 31 of the words. What is written is read back as the same words */
+bed_reply    panel_routes_read_bed(const uint8_t *image, size_t image_len, const uint8_t *names, size_t names_len, uint64_t family, const uint8_t *text, size_t text_len,
+                                   uint64_t *out, size_t out_len);
 /* at most minus the sum of (c - background)^2 / background over the counts c above the background; refusal 43: a count of 2^53 or more, or a
    background not finite or not above 0 */
 bound_reply  panel_routes_lower_bound(const uint64_t *counts, size_t counts_len, double background);

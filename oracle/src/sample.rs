@@ -473,7 +473,7 @@ fn tables_e() -> Vec<Vec<u8>> {
     all.push(format!("left\n{long}\n").into());
     all.push(format!("left\n{longest}\n").into());
     all.extend(["!\n~\n", "a\nb\n", "r0\n0\n", "#\n+\n", "a\nab\n"].map(|t| t.as_bytes().to_vec()));
-    // One bucket of the hash, and the same hash.
+    // Two names with the same hash.
     all.extend([&b"!!!\n^.R\n"[..], b"^.R\n!!!\n", NAMES_E].map(<[u8]>::to_vec));
     all
 }

@@ -81,6 +81,13 @@ struct SpellReply {
 }
 
 #[repr(C)]
+struct BedReply {
+    refusal: u64,
+    place: u64,
+    length: u64,
+}
+
+#[repr(C)]
 struct BoundReply {
     refusal: u64,
     place: u64,
@@ -162,6 +169,27 @@ extern "C" {
         out: *mut u8,
         out_len: usize,
     ) -> SpellReply;
+    fn panel_routes_write_bed(
+        image: *const u8,
+        image_len: usize,
+        names: *const u8,
+        names_len: usize,
+        words: *const u64,
+        words_len: usize,
+        out: *mut u8,
+        out_len: usize,
+    ) -> BedReply;
+    fn panel_routes_read_bed(
+        image: *const u8,
+        image_len: usize,
+        names: *const u8,
+        names_len: usize,
+        family: u64,
+        text: *const u8,
+        text_len: usize,
+        out: *mut u64,
+        out_len: usize,
+    ) -> BedReply;
     fn panel_routes_lower_bound(counts: *const u64, counts_len: usize, background: f64) -> BoundReply;
 }
 
@@ -299,6 +327,47 @@ pub fn spell(
     given(r.refusal, r.place, r.letters)
 }
 
+/// How many bytes of `out` were written.
+pub fn write_bed(image: &[u8], names: &[u8], words: &[u64], out: &mut [u8]) -> Result<u64, Refusal> {
+    let r = unsafe {
+        panel_routes_write_bed(
+            image.as_ptr(),
+            image.len(),
+            names.as_ptr(),
+            names.len(),
+            words.as_ptr(),
+            words.len(),
+            out.as_mut_ptr(),
+            out.len(),
+        )
+    };
+    given(r.refusal, r.place, r.length)
+}
+
+/// How many words of `out` were written.
+pub fn read_bed(
+    image: &[u8],
+    names: &[u8],
+    family: u64,
+    text: &[u8],
+    out: &mut [u64],
+) -> Result<u64, Refusal> {
+    let r = unsafe {
+        panel_routes_read_bed(
+            image.as_ptr(),
+            image.len(),
+            names.as_ptr(),
+            names.len(),
+            family,
+            text.as_ptr(),
+            text.len(),
+            out.as_mut_ptr(),
+            out.len(),
+        )
+    };
+    given(r.refusal, r.place, r.length)
+}
+
 pub fn lower_bound(counts: &[u64], background: f64) -> Result<Option<f64>, Refusal> {
     let r = unsafe { panel_routes_lower_bound(counts.as_ptr(), counts.len(), background) };
     given(r.refusal, r.place, (r.given == 1).then_some(r.bound))
@@ -306,10 +375,11 @@ pub fn lower_bound(counts: &[u64], background: f64) -> Result<Option<f64>, Refus
 
 #[cfg(test)]
 mod tests {
-    //! 13 and 21, which the crate's own rooms never call forth; the refusals of the plain listing and
-    //! of the letters in their order, with what they leave in the room.
+    //! 13 and 21, which the crate's own rooms never call forth; the refusals of the plain listing, of
+    //! the letters and of routes as BED in their order, with what they leave in the room; tables of
+    //! names that the crate's own never are.
     use super::*;
-    use crate::{search::Rooms, PanelBuilder};
+    use crate::{search::Rooms, Panel, PanelBuilder};
     use std::collections::BTreeSet;
 
     #[test]
@@ -421,13 +491,41 @@ mod tests {
         });
     }
 
-    #[test]
-    fn a_spelling_is_refused_by_the_first_that_is_wrong() {
+    /// Panel E with a second family.
+    fn two_families() -> Panel<'static> {
         let mut builder = PanelBuilder::new(2);
         builder.lane(10, 0).lane(10, 1).family([0]).family([0, 1]);
         builder.port("AC", 0, 3, false).port("AC", 1, 5, false);
         builder.port("GG", 0, 6, false).port("GG", 1, 7, false);
-        let panel = builder.build().unwrap();
+        builder.build().unwrap()
+    }
+
+    /// Words on it that the check refuses, with the refusal's number and place.
+    fn refused_words() -> Vec<(Vec<u64>, (u64, u64))> {
+        let second = |segments: &[[u64; 4]]| {
+            [&[1, 2, 1, 0, 0, 10, 0, segments.len() as u64], segments.concat().as_slice()].concat()
+        };
+        let long = [&[0, 1, 16_384][..], &[0, 0, 10, 0].repeat(16_384)].concat();
+        vec![
+            (vec![], (22, 0)),
+            (vec![0, 1, 1, 0, 0, 10, 2], (22, 0)),
+            (vec![u64::MAX, u64::MAX], (22, 0)),
+            (long, (22, 0)),
+            (vec![2, 0], (23, 0)),
+            (vec![0, 0], (24, 0)),
+            (second(&[]), (25, 1)),
+            (second(&[[1, 0, 11, 0]]), (26, 1)),
+            (second(&[[1, 0, 9, 0]]), (27, 1)),
+            (second(&[[1, 0, 3, 0], [1, 4, 10, 0]]), (28, 1)),
+            (second(&[[1, 0, 6, 0], [1, 7, 10, 0]]), (29, 1)),
+            (second(&[[1, 0, 6, 0], [1, 8, 10, 0]]), (30, 1)),
+            (second(&[[1, 0, 6, 0], [0, 4, 7, 0], [1, 8, 10, 0]]), (31, 0)),
+        ]
+    }
+
+    #[test]
+    fn a_spelling_is_refused_by_the_first_that_is_wrong() {
+        let panel = two_families();
         let letters = b"TTTACTGGTACCCCCACGGC";
         let wrong: [(&[u8], u64); 6] = [
             (b"TTTACTGCTACCCCCACGG", 39),
@@ -443,25 +541,7 @@ mod tests {
         }
         assert_eq!(check_letters(panel.image(), letters), Ok(()));
         let refusal = |words: &[u64], crop, room| spell_refusal(panel.image(), letters, words, crop, room);
-        let second = |segments: &[[u64; 4]]| {
-            [&[1, 2, 1, 0, 0, 10, 0, segments.len() as u64], segments.concat().as_slice()].concat()
-        };
-        let long = [&[0, 1, 16_384][..], &[0, 0, 10, 0].repeat(16_384)].concat();
-        for (words, expected) in [
-            (vec![], (22, 0)),
-            (vec![0, 1, 1, 0, 0, 10, 2], (22, 0)),
-            (vec![u64::MAX, u64::MAX], (22, 0)),
-            (long, (22, 0)),
-            (vec![2, 0], (23, 0)),
-            (vec![0, 0], (24, 0)),
-            (second(&[]), (25, 1)),
-            (second(&[[1, 0, 11, 0]]), (26, 1)),
-            (second(&[[1, 0, 9, 0]]), (27, 1)),
-            (second(&[[1, 0, 3, 0], [1, 4, 10, 0]]), (28, 1)),
-            (second(&[[1, 0, 6, 0], [1, 7, 10, 0]]), (29, 1)),
-            (second(&[[1, 0, 6, 0], [1, 8, 10, 0]]), (30, 1)),
-            (second(&[[1, 0, 6, 0], [0, 4, 7, 0], [1, 8, 10, 0]]), (31, 0)),
-        ] {
+        for (words, expected) in refused_words() {
             assert_eq!(refusal(&words, NONE, 0), expected, "{words:?}");
             let checked = check_assignment(panel.image(), &words, &mut vec![0; words.len()]);
             assert_eq!(checked, Err(Refusal::new(expected.0, expected.1)));
@@ -478,5 +558,115 @@ mod tests {
             }
             assert_eq!(refusal(&mosaic, crop, size), (0, 0), "{crop:?}");
         }
+    }
+
+    /// As for `spell_refusal`, of the two calls with names.
+    fn write_refusal(image: &[u8], names: &[u8], words: &[u64], room: usize) -> (u64, u64) {
+        let mut bytes = [0xa5; 160];
+        let Err(refusal) = write_bed(image, names, words, &mut bytes[20..20 + room]) else { return (0, 0) };
+        assert_eq!(bytes, [0xa5; 160]);
+        (refusal.number(), refusal.place())
+    }
+
+    fn read_refusal(image: &[u8], names: &[u8], family: u64, text: &[u8], room: usize) -> (u64, u64) {
+        let mut words = [u64::MAX; 60];
+        let found = read_bed(image, names, family, text, &mut words[20..20 + room]);
+        let Err(refusal) = found else { return (0, 0) };
+        assert_eq!(words, [u64::MAX; 60]);
+        (refusal.number(), refusal.place())
+    }
+
+    const MOSAIC: [u64; 15] = [0, 1, 3, 0, 0, 4, 0, 1, 6, 8, 0, 0, 7, 10, 0];
+    const MOSAIC_BED: &[u8] = b"l\t0\t4\tr0\t0\t+\nr\t6\t8\tr0\t0\t+\nl\t7\t10\tr0\t0\t+\n";
+
+    #[test]
+    fn the_calls_with_names_refuse_a_panel_as_its_check_does() {
+        as_the_panel_check(|image| {
+            // All the rest is wrong too.
+            let (number, place) = write_refusal(image, b"", &[], 0);
+            assert_eq!(read_refusal(image, b"", 9, b"x", 0), (number, place));
+            assert_eq!(place, 0);
+            if number == 34 {
+                0
+            } else {
+                number
+            }
+        });
+    }
+
+    #[test]
+    fn a_table_that_is_bad() {
+        let panel = two_families();
+        let image = panel.image();
+        let long = [&[b'x'; 65][..], b"\nr\n"].concat();
+        let mut bad: Vec<Vec<u8>> = [
+            &b""[..],
+            b"\n",
+            b"\n\n",
+            b"l",
+            b"l\n",
+            b"l\nr",
+            b"l\nr\n\n",
+            b"\nl\nr\n",
+            b"l\n\nr\n",
+            b"l\nr\nx\n",
+            b"l\nr\nx",
+            b"l\nl\n",
+            b"l\n\n",
+            b"\nr\n",
+            b"l\r\nr\r\n",
+            b"l \nr\n",
+            b"l\nr\t\n",
+            &long,
+        ]
+        .map(<[u8]>::to_vec)
+        .to_vec();
+        for byte in (0..=32).chain(127..=255).filter(|b| *b != b'\n') {
+            bad.push(vec![b'l', byte, b'\n', b'r', b'\n']);
+            bad.push(vec![b'l', b'\n', byte, b'\n']);
+        }
+        for table in &bad {
+            assert_eq!(write_refusal(image, table, &MOSAIC, 100), (34, 0), "{table:?}");
+            assert_eq!(read_refusal(image, table, 0, MOSAIC_BED, 15), (34, 0), "{table:?}");
+            // All the rest is wrong too.
+            assert_eq!(write_refusal(image, table, &[], 0), (34, 0));
+            assert_eq!(read_refusal(image, table, 9, b"x", 0), (34, 0));
+        }
+        for byte in 33..=126 {
+            let table = [b'l', b'\n', b'l', byte, b'\n'];
+            assert_eq!(write_refusal(image, &table, &MOSAIC, 100), (0, 0), "{byte}");
+            let table = [b'l', b'\n', byte, b'\n'];
+            assert_eq!(write_refusal(image, &table, &MOSAIC, 100) == (34, 0), byte == b'l', "{byte}");
+        }
+        assert_eq!(write_refusal(image, &[&[b'x'; 64][..], b"\nr\n"].concat(), &MOSAIC, 140), (37, 0));
+    }
+
+    #[test]
+    fn a_writing_is_refused_by_the_first_that_is_wrong() {
+        let panel = two_families();
+        for (words, expected) in refused_words() {
+            assert_eq!(write_refusal(panel.image(), b"l\nr\n", &words, 0), expected, "{words:?}");
+            assert_eq!(write_refusal(panel.image(), b"l\nr\n", &words, 140), expected, "{words:?}");
+        }
+        for room in 0..MOSAIC_BED.len() {
+            assert_eq!(write_refusal(panel.image(), b"l\nr\n", &MOSAIC, room), (37, 0));
+        }
+        assert_eq!(write_refusal(panel.image(), b"l\nr\n", &MOSAIC, MOSAIC_BED.len()), (0, 0));
+    }
+
+    #[test]
+    fn a_reading_is_refused_by_the_first_that_is_wrong() {
+        let panel = two_families();
+        let refusal = |family, text: &[u8], room| read_refusal(panel.image(), b"l\nr\n", family, text, room);
+        // 35 in the last line, before 36 in the first.
+        assert_eq!(refusal(9, b"x\t0\t4\tr0\t0\t+\nl\t0\t4\tr0\t1\t+\n", 0), (35, 0));
+        assert_eq!(refusal(9, b"l\t0\t4\tr0\t0\t+\nx\t0\t4\tr0\t0\t+\n", 0), (36, 0));
+        for room in 0..15 {
+            assert_eq!(refusal(9, MOSAIC_BED, room), (37, 0));
+        }
+        assert_eq!([9, 1, 0].map(|family| refusal(family, MOSAIC_BED, 15)), [(23, 0), (24, 0), (0, 0)]);
+        assert_eq!([0, 1, 2, 3].map(|room| refusal(0, b"", room).0), [37, 37, 24, 24]);
+        assert_eq!(refusal(2, b"", 2), (23, 0));
+        assert_eq!(refusal(1, b"l\t0\t10\tr0\t0\t+\nr\t0\t9\tr1\t0\t+\n", 12), (27, 1));
     }
 }

@@ -7,7 +7,8 @@
 //!
 //! Everything that decides is done by `libpanel_routes.a`, whose calls are proved to answer as
 //! document 01 says; this crate allocates the rooms, calls and puts the answers into types.
-//! Bad input is a [`Refusal`] with the document's number and words, or a [`BuildError`].
+//! Bad input is a [`Refusal`] with the document's number and words, a [`BuildError`] or a
+//! [`NamesError`].
 //!
 //! # Panel E
 //!
@@ -88,6 +89,35 @@
 //! # Ok::<(), Box<dyn std::error::Error>>(())
 //! ```
 //!
+//! # Routes as BED
+//!
+//! [`Assignment::to_bed`] writes the routes of an assignment for a genome browser, with the lanes'
+//! [`Names`]; [`Panel::read_bed`] reads such lines back:
+//!
+//! ```
+//! # use panel_routes::PanelBuilder;
+//! # let panel = PanelBuilder::new(2)
+//! #     .lane(10, 0)
+//! #     .lane(10, 1)
+//! #     .family([0])
+//! #     .port("AC", 0, 3, false)
+//! #     .port("AC", 1, 5, false)
+//! #     .port("GG", 0, 6, false)
+//! #     .port("GG", 1, 7, false)
+//! #     .build()?;
+//! use panel_routes::Names;
+//!
+//! let names = Names::new(["barke.2H", "morex.2H"])?;
+//! let mosaic = panel.plain_assignments()?.last().unwrap();
+//! let bed = mosaic.to_bed(&panel, &names)?;
+//! assert_eq!(
+//!     bed,
+//!     "barke.2H\t0\t4\tr0\t0\t+\nmorex.2H\t6\t8\tr0\t0\t+\nbarke.2H\t7\t10\tr0\t0\t+\n"
+//! );
+//! assert_eq!(panel.read_bed(&names, mosaic.family(), &bed)?, mosaic);
+//! # Ok::<(), Box<dyn std::error::Error>>(())
+//! ```
+//!
 //! # A lower bound
 //!
 //! [`lower_bound`] takes counts and a background, and no panel: what the original reports beside
@@ -99,6 +129,7 @@
 //! a recursion of bounded depth, needs up to 1.55 MB of it (x86-64). On a thread with a smaller stack
 //! than that they end at its guard page, as too deep a recursion in Rust does.
 
+mod bed;
 mod bound;
 mod builder;
 mod evaluate;
@@ -114,6 +145,7 @@ mod search;
 mod sheet;
 mod storage;
 
+pub use bed::{Names, NamesError};
 pub use bound::lower_bound;
 pub use builder::{BuildError, PanelBuilder};
 pub use evaluate::{Assignment, Segment};

@@ -12,8 +12,8 @@ impl Refusal {
         Self { number, place }
     }
 
-    /// 1 to 31, by the table of refusals, 37 and 39 to 41 of the letters, 42 of the plain listing
-    /// and 43 of the lower bound.
+    /// 1 to 31, by the table of refusals, 34 to 37 of routes as BED, 37 and 39 to 41 of the letters,
+    /// 42 of the plain listing and 43 of the lower bound.
     pub fn number(&self) -> u64 {
         self.number
     }
@@ -62,6 +62,9 @@ impl Refusal {
             29 => "no incoming port",
             30 => "words differ",
             31 => "spans overlap",
+            34 => "routes as BED: name table bad",
+            35 => "routes as BED: a line not in this form",
+            36 => "routes as BED: a name not in the table",
             37 => "out too short",
             39 => "letters: not as many as the lanes have, or one other than A, C, G and T",
             40 => "letters: a port whose word differs",

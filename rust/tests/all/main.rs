@@ -1,4 +1,5 @@
 //! The crate from outside, over the archive that it is linked to.
+mod bed;
 mod bounds;
 mod builder;
 mod certified;

@@ -1,7 +1,8 @@
 //! The original's recorded answers (oracle/recorded), asked for through the crate.
 //! Records about rooms that the crate never lends (13, 21) are passed over.
 use panel_routes::{
-    lower_bound, Assignment, Frame, Job, Panel, PanelBuilder, Refusal, Scored, SearchBudget, Sheet, Status,
+    lower_bound, Assignment, Frame, Job, Names, Panel, PanelBuilder, Refusal, Scored, SearchBudget, Sheet,
+    Status,
 };
 use std::{fs, path::Path};
 
@@ -219,8 +220,8 @@ fn plain_lists() {
     });
 }
 
-/// The lanes' letters that arguments begin with, and the arguments behind them.
-fn lane_letters(arguments: &[u64]) -> (Vec<u8>, &[u64]) {
+/// The bytes that arguments begin with, and the arguments behind them.
+fn front_bytes(arguments: &[u64]) -> (Vec<u8>, &[u64]) {
     let n = arguments[0] as usize;
     let (own, rest) = arguments[1..].split_at(n.div_ceil(8));
     let mut own = letters(own);
@@ -232,7 +233,7 @@ fn lane_letters(arguments: &[u64]) -> (Vec<u8>, &[u64]) {
 fn letters_of_lanes() {
     replay("letters.bin", &[], |r| {
         let panel = Panel::new(&r.image[..])?;
-        panel.letters(lane_letters(&r.arguments).0)?;
+        panel.letters(front_bytes(&r.arguments).0)?;
         Ok(vec![])
     });
 }
@@ -240,7 +241,7 @@ fn letters_of_lanes() {
 #[test]
 fn spellings() {
     replay("spell.bin", &[], |r| {
-        let (own, rest) = lane_letters(&r.arguments);
+        let (own, rest) = front_bytes(&r.arguments);
         let slot = usize::try_from(rest[1]).unwrap_or(usize::MAX);
         let mut out = vec![b'-'; rest[0] as usize];
         let panel = Panel::new(&r.image[..])?;
@@ -250,6 +251,41 @@ fn spellings() {
         assert!(out.split_off(n).iter().all(|b| *b == b'-'));
         out.resize(n.next_multiple_of(8), 0);
         Ok([vec![n as u64], words(&out)].concat())
+    });
+}
+
+/// The names of a table, and of one that the crate does not take none: the library refuses both.
+fn names(panel: &Panel, table: Vec<u8>) -> Result<Names, Refusal> {
+    let names = Names::parse(table).unwrap_or_else(|_| Names::new([""; 0]).unwrap());
+    let refused = panel.read_bed(&names, 0, "").err().filter(|r| r.number() == 34);
+    refused.map_or(Ok(names), Err)
+}
+
+#[test]
+fn writings() {
+    replay("write.bin", &[], |r| {
+        let (table, rest) = front_bytes(&r.arguments);
+        let mut out = vec![0xa5; rest[0] as usize];
+        let panel = Panel::new(&r.image[..])?;
+        let names = names(&panel, table)?;
+        let n = Assignment::from_words(&rest[2..])?.to_bed_into(&panel, &names, &mut out)?;
+        assert!(out.split_off(n).iter().all(|b| *b == 0xa5));
+        out.resize(n.next_multiple_of(8), 0);
+        Ok([vec![n as u64], words(&out)].concat())
+    });
+}
+
+#[test]
+fn readings() {
+    replay("read.bin", &[], |r| {
+        let (table, rest) = front_bytes(&r.arguments);
+        let (text, behind) = front_bytes(&rest[2..]);
+        assert!(behind.is_empty());
+        let mut out = vec![u64::MAX; rest[0] as usize];
+        let panel = Panel::new(&r.image[..])?;
+        let n = panel.read_bed_into(&names(&panel, table)?, rest[1], text, &mut out)?;
+        assert!(out.split_off(n).iter().all(|w| *w == u64::MAX));
+        Ok([vec![n as u64], out].concat())
     });
 }
 
