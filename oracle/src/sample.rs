@@ -570,10 +570,9 @@ fn reads_on_e() -> Vec<Call> {
     };
     let mut all: Vec<Call> = texts_e().iter().map(|text| call(NAMES_E, 0, text, 24)).collect();
     for table in tables_e() {
-        let own: Vec<&[u8]> = table.split(|b| *b == b'\n').collect();
-        let named = |name: &str, i: usize| MOSAIC_BED.replace(name, &String::from_utf8_lossy(own[i]));
-        if own.len() == 3 {
-            let text = named("left", 0).replace("right", &String::from_utf8_lossy(own[1]));
+        let names = String::from_utf8_lossy(&table);
+        if let [left, right, _] = names.split('\n').collect::<Vec<_>>()[..] {
+            let text = MOSAIC_BED.replace("left", left).replace("right", right);
             all.push(call(&table, 0, &text, 24));
         }
         all.push(call(&table, 0, MOSAIC_BED, 24));

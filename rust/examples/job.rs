@@ -2,7 +2,11 @@
 //!
 //! `job pack [TEXT]` writes a job, `job unpack [JOB]` its text, `job list [JOB]` all legal
 //! assignments of its panel by the plain engine, which has no budget; without a file they read
-//! standard input. A line is one of these, `#` begins a comment:
+//! standard input. `job bed [FILE [N]]` takes either a job or a text, searches, and writes the routes
+//! of the incumbent as BED, or of tied optimum N, counted from 1; of `-` it reads standard input. A
+//! text names its lanes; to a job, which does not, they are lane0, lane1 and so on.
+//!
+//! A line of a text is one of these, `#` begins a comment:
 //!
 //! ```text
 //! k 2                        letters of a word
@@ -15,7 +19,7 @@
 //!
 //! Without a budget line the job has no budget words; with one, what is not said is the
 //! default. A number of a score or width may be given by its bits, as 0x7ff0000000000000.
-use panel_routes::{Assignment, Job, PanelBuilder, SearchBudget};
+use panel_routes::{Assignment, Job, Names, PanelBuilder, Scored, SearchBudget};
 use std::{
     env,
     error::Error,
@@ -27,7 +31,7 @@ use std::{
 
 type Outcome<T> = Result<T, Box<dyn Error>>;
 
-const USAGE: &str = "usage: job pack [TEXT], job unpack [JOB] or job list [JOB]";
+const USAGE: &str = "usage: job pack [TEXT], job unpack [JOB], job list [JOB] or job bed [JOB|TEXT [N]]";
 
 /// What the lines of a text have said so far.
 struct Text {
@@ -105,7 +109,8 @@ fn shown(x: f64) -> String {
     }
 }
 
-fn pack(text: &str) -> Outcome<Vec<u8>> {
+/// The job that a text describes, and the names of its lanes.
+fn described(text: &str) -> Outcome<(Job<'static>, Vec<String>)> {
     let mut said =
         Text { names: Vec::new(), builder: PanelBuilder::new(0), budget: None, scores: Vec::new() };
     for (i, line) in text.lines().enumerate() {
@@ -113,7 +118,16 @@ fn pack(text: &str) -> Outcome<Vec<u8>> {
         said.line(&words).map_err(|e| format!("line {}: {e}", i + 1))?;
     }
     let job = Job { panel: said.builder.build()?, budget: said.budget, scores: said.scores };
-    Ok(job.to_bytes()?)
+    Ok((job, said.names))
+}
+
+fn pack(text: &str) -> Outcome<Vec<u8>> {
+    Ok(described(text)?.0.to_bytes()?)
+}
+
+/// The name of a lane in a text of a job, which has none.
+fn lane_name(lane: impl std::fmt::Display) -> String {
+    format!("lane{lane}")
 }
 
 /// The segments of each route, routes apart by a stroke.
@@ -144,15 +158,15 @@ fn unpack(bytes: &[u8]) -> Outcome<String> {
     let job = Job::from_bytes(bytes)?;
     let mut text = format!("k {}\n", job.panel.k());
     for (i, lane) in job.panel.lanes().enumerate() {
-        writeln!(text, "lane lane{i} {} {}", lane.length, lane.identity)?;
+        writeln!(text, "lane {} {} {}", lane_name(i), lane.length, lane.identity)?;
     }
     for paths in job.panel.families() {
-        let names: Vec<String> = paths.iter().map(|p| format!("lane{p}")).collect();
+        let names: Vec<String> = paths.iter().map(lane_name).collect();
         writeln!(text, "family {}", names.join(" "))?;
     }
     for p in job.panel.ports() {
         let sign = if p.reverse { '-' } else { '+' };
-        writeln!(text, "port {} lane{} {} {sign}", p.word, p.source, p.anchor)?;
+        writeln!(text, "port {} {} {} {sign}", p.word, lane_name(p.source), p.anchor)?;
     }
     if let Some(b) = job.budget {
         writeln!(text, "max_work {}\nmax_evaluations {}", b.max_work, b.max_evaluations)?;
@@ -173,9 +187,37 @@ fn list(bytes: &[u8]) -> Outcome<String> {
     Ok(text)
 }
 
+/// A job or its text, whose bytes are never 0 as some of a job's are.
+fn job_and_names(bytes: &[u8]) -> Outcome<(Job<'_>, Names)> {
+    if bytes.contains(&0) {
+        let job = Job::from_bytes(bytes)?;
+        let names = Names::new((0..job.panel.lanes().len()).map(lane_name))?;
+        return Ok((job, names));
+    }
+    let (job, names) = described(std::str::from_utf8(bytes)?)?;
+    Ok((job, Names::new(names)?))
+}
+
+/// A kept assignment of a job's search as BED, 0 the incumbent, and what is to be said beside it.
+fn bed(bytes: &[u8], slot: usize) -> Outcome<(String, String)> {
+    let (job, names) = job_and_names(bytes)?;
+    let sheet = job.panel.search_with_scores(job.budget.unwrap_or_default(), &job.scores)?;
+    let found = sheet.incumbent.iter().chain(&sheet.optima).nth(slot);
+    let tied = sheet.optima.len();
+    let Some(Scored { assignment, score }) = found else {
+        return Err(match slot {
+            0 => "no incumbent: the panel has no family".into(),
+            _ => format!("no tied optimum {slot}: there are {tied}").into(),
+        });
+    };
+    let shown = if slot == 0 { "incumbent".into() } else { format!("tied optimum {slot}") };
+    let about = format!("{}: {shown}, family {}, score {score:?}", sheet.status, assignment.family());
+    Ok((assignment.to_bed(&job.panel, &names)?, format!("{about}; {tied} tied optima")))
+}
+
 fn input(file: Option<&String>) -> io::Result<Vec<u8>> {
     let mut bytes = Vec::new();
-    match file {
+    match file.filter(|name| *name != "-") {
         Some(name) => bytes = fs::read(name)?,
         None => drop(io::stdin().read_to_end(&mut bytes)?),
     }
@@ -186,12 +228,19 @@ fn run(words: &[String]) -> Outcome<()> {
     let (word, file) = match words {
         [word] => (word, None),
         [word, file] => (word, Some(file)),
+        [word, file, _] if word == "bed" => (word, Some(file)),
         _ => return Err(USAGE.into()),
     };
     let answer = match word.as_str() {
         "pack" => pack(std::str::from_utf8(&input(file)?)?)?,
         "unpack" => unpack(&input(file)?)?.into_bytes(),
         "list" => list(&input(file)?)?.into_bytes(),
+        "bed" => {
+            let slot = words.get(2).map_or(Ok(0), |n| n.parse())?;
+            let (lines, about) = bed(&input(file)?, slot)?;
+            eprintln!("{about}");
+            lines.into_bytes()
+        }
         _ => return Err(USAGE.into()),
     };
     Ok(io::stdout().write_all(&answer)?)
@@ -236,6 +285,40 @@ mod tests {
         let mosaic = "lane0 0 4 +, lane1 6 8 +, lane0 7 10 +";
         assert_eq!(listed, format!("1, family 0: lane0 0 10 +\n2, family 0: {mosaic}\n"));
         assert_eq!(list(&file("mosaic.job")).unwrap().lines().count(), 36);
+    }
+
+    #[test]
+    fn the_examples_as_bed() {
+        let (lines, about) = bed(&file("mosaic.txt"), 0).unwrap();
+        assert_eq!(lines.as_bytes(), file("mosaic.bed"));
+        let status = "domain-exhausted-optimum-and-correlated-support-certified";
+        assert_eq!(about, format!("{status}: incumbent, family 0, score 5.0; 2 tied optima"));
+        let (tied, about) = bed(&file("mosaic.txt"), 2).unwrap();
+        assert_eq!(about, format!("{status}: tied optimum 2, family 0, score 5.0; 2 tied optima"));
+        assert_eq!((lines.lines().count(), tied.lines().count()), (4, 6));
+        let said = bed(&file("mosaic.txt"), 3).unwrap_err().to_string();
+        assert_eq!(said, "no tied optimum 3: there are 2");
+        // A job has no names.
+        let names = ["barke.2H", "barke.5H", "morex.2H", "morex.5H", "igri.2H", "igri.5H"];
+        let unnamed = |text: String, (i, name): (usize, &&str)| text.replace(name, &format!("lane{i}"));
+        let numbered = names.iter().enumerate().fold(lines.clone(), unnamed);
+        assert_eq!(bed(&file("mosaic.job"), 0).unwrap().0, numbered);
+        let (job, names) =
+            job_and_names(&file("mosaic.txt")).map(|(j, n)| (j.to_bytes().unwrap(), n)).unwrap();
+        let job = Job::from_bytes(&job).unwrap();
+        let read = job.panel.read_bed(&names, 0, &lines).unwrap();
+        assert_eq!(read.to_bed(&job.panel, &names).unwrap(), lines);
+    }
+
+    #[test]
+    fn what_is_not_shown_as_bed() {
+        let said = |text: &str| bed(text.as_bytes(), 0).unwrap_err().to_string();
+        assert_eq!(said("k 1\nlane a 1 0\nfamily a"), "refused 14 1: an evaluation has no score in the list");
+        assert_eq!(said("k 1\nlane a 1 0"), "no incumbent: the panel has no family");
+        let long = "x".repeat(65);
+        let name = "lane 0: its name is not 1 to 64 printing ASCII bytes without a space";
+        assert_eq!(said(&format!("k 1\nlane {long} 1 0")), name);
+        assert_eq!(said("k 1\nlane \u{e9} 1 0"), name);
     }
 
     #[test]
