@@ -2,6 +2,7 @@
 // program prints, and says of each kind how many agreed and how many did not.
 
 mod assignments;
+mod beds;
 mod bounds;
 mod listings;
 mod lookups;
@@ -71,6 +72,8 @@ fn answered(h: Head, image: &[u8], body: &[u8]) -> bool {
         9 => plain::is_plain(image, body, arguments, at, end),
         10 => spellings::is_letters(image, body, arguments, at, end),
         11 => spellings::is_spell(image, body, arguments, at, end),
+        12 => beds::is_write(image, body, arguments, at, end),
+        13 => beds::is_read(image, body, arguments, at, end),
         _ => false,
     }
 }
@@ -88,6 +91,8 @@ struct Sheet {
     plain: Score,
     letters: Score,
     spell: Score,
+    write: Score,
+    read: Score,
     unknown: Score,
 }
 
@@ -127,6 +132,12 @@ impl Sheet {
             }
             11 => {
                 s.spell = s.spell.counted(is_same);
+            }
+            12 => {
+                s.write = s.write.counted(is_same);
+            }
+            13 => {
+                s.read = s.read.counted(is_same);
             }
             _ => {
                 s.unknown = s.unknown.counted(is_same);
@@ -203,6 +214,8 @@ fn main() {
         plain: none,
         letters: none,
         spell: none,
+        write: none,
+        read: none,
         unknown: none,
     };
     let mut turns: u64 = 1000000;
@@ -229,5 +242,7 @@ fn main() {
     print(b"plain ", sheet.plain);
     print(b"letters ", sheet.letters);
     print(b"spell ", sheet.spell);
+    print(b"write ", sheet.write);
+    print(b"read ", sheet.read);
     print(b"unknown ", sheet.unknown);
 }

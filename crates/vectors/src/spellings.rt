@@ -2,15 +2,15 @@
 use crate::record;
 use crate::rooms;
 
-// What stands in a room of bytes before a call: no letter.
-const MARK: u8 = 0xa5;
+// What stands in a room of bytes before a call: no letter, and none of BED.
+pub const MARK: u8 = 0xa5;
 
 fn byte(s: &[u8], at: usize) -> u8 {
     if at < s.len() { s[at] } else { 0 }
 }
 
 // The byte offset n bytes on; past every record where n is more than a record has.
-fn behind(at: usize, n: u64) -> usize {
+pub fn behind(at: usize, n: u64) -> usize {
     if 16384 < at {
         return at;
     }
@@ -21,7 +21,7 @@ fn behind(at: usize, n: u64) -> usize {
 }
 
 // Whether the room has the n bytes behind a byte offset at its start and is as it was behind them.
-fn is_left(room: &[u8; rooms::WORDS], body: &[u8], at: usize, n: u64) -> bool {
+pub fn is_left(room: &[u8; rooms::WORDS], body: &[u8], at: usize, n: u64) -> bool {
     if 16384 < at {
         return false;
     }

@@ -4,10 +4,10 @@ use Rattle.vectors.proofs.main.Statement.{statement}
 use Rattle.vectors.proofs.main.Tie as tie
 
 abbrev Inv-loop : tie.InvT-loop
-Inv-loop sheet₀ turns₀ t6 t7 t8 t9 t10 t11 t12 t13 t14 t15 t16 t17 sheet turns = turns ≤ 1000000
+Inv-loop sheet₀ turns₀ t6 t7 t8 t9 t10 t11 t12 t13 t14 t15 t16 t17 t18 t19 sheet turns = turns ≤ 1000000
 
 abbrev μ-loop : tie.MeasureT-loop
-μ-loop sheet₀ turns₀ t6 t7 t8 t9 t10 t11 t12 t13 t14 t15 t16 t17 sheet turns = turns
+μ-loop sheet₀ turns₀ t6 t7 t8 t9 t10 t11 t12 t13 t14 t15 t16 t17 t18 t19 sheet turns = turns
 
 pub main-spec : {M : Type 1} → statement M
 main-spec =
@@ -46,4 +46,8 @@ main-spec =
     (λ c κs. search needs)  -- print-requires-11
     (λ c. search needs)  -- slice-aggregate-print-12
     (λ c κs. search needs)  -- print-requires-12
+    (λ c. search needs)  -- slice-aggregate-print-13
+    (λ c κs. search needs)  -- print-requires-13
+    (λ c. search needs)  -- slice-aggregate-print-14
+    (λ c κs. search needs)  -- print-requires-14
     (λ c. search needs))  -- returns
