@@ -63,6 +63,10 @@ pub fn of(image: &[u8], call: &Call, o: &Outcome) -> Vec<&'static str> {
     if let (35, Call::Read { text, .. }) = (r[0], call) {
         return vec![fault(text)];
     }
+    if let (24, Call::Read { text, .. }) = (r[0], call) {
+        let lines = rules::bed_lines(text).unwrap_or_default();
+        return if lines.last().is_some_and(|l| l.slot > 63) { vec!["65 routes or more"] } else { vec![] };
+    }
     if r[0] != 0 {
         return match (r[0], r[1]) {
             (25..=30, 1..) => vec!["in a later route"],

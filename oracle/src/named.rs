@@ -47,6 +47,12 @@ fn twins(rng: &mut Rng) -> [Vec<u8>; 2] {
     [one, other].map(|n| n.map(|b| b as u8).to_vec())
 }
 
+/// Another name with the same hash, where it has one of `twins`.
+fn twin(name: &[u8]) -> Option<Vec<u8>> {
+    let moved: Vec<u8> = name.iter().zip([61, 13, 49]).map(|(b, d)| b.saturating_add(d)).collect();
+    Some(moved).filter(|m| name.len() == 3 && rules::is_name(m))
+}
+
 /// Name i of a table, by its style; it may be there already.
 fn name(rng: &mut Rng, style: u64, i: usize, bucket: u64) -> Vec<u8> {
     let length = rng.range(1, 64);
@@ -209,6 +215,7 @@ fn bad_number(rng: &mut Rng, old: &[u8]) -> Vec<u8> {
         "18446744073709551609".into(),
         "99999999999999999999".into(),
         "100000000000000000000".into(),
+        "9".repeat(5000),
         long,
         (value + 1).to_string(),
         value.saturating_sub(1).to_string(),
@@ -228,11 +235,11 @@ fn bad_column(rng: &mut Rng, line: &mut Columns, names: &[Vec<u8>]) {
             0 => vec![],
             1 => [&old[..], b"x"].concat(),
             2 => old[..old.len() - 1].to_vec(),
-            3 => vec![b'x'; rng.range(63, 66) as usize],
+            3 => vec![b'x'; rng.pick(&[63, 64, 65, 66, 127, 128, 129, 5000])],
             4 => [&old[..], &[other_byte(rng)]].concat(),
             5 => [&[other_byte(rng)], &old[..]].concat(),
             6 => b"no-such-lane".to_vec(),
-            7 => in_bucket(rng, hash(&old) % 4096),
+            7 => twin(&old).unwrap_or_else(|| in_bucket(rng, hash(&old) % 4096)),
             8 => old.iter().rev().copied().collect(),
             _ => rng.pick(names),
         },
@@ -248,6 +255,17 @@ fn bad_column(rng: &mut Rng, line: &mut Columns, names: &[Vec<u8>]) {
         5 => rng.pick(&["", ".", "+-", "-+", "++", "+ ", " +", "*", "-\r", "+\r", "1", ",", "+", "-"]).into(),
         _ => bad_number(rng, &old),
     };
+}
+
+/// One line again and again, each time in a slot of its own.
+fn many_slots(rng: &mut Rng, lines: &mut Vec<Columns>, size: Size) {
+    let n = match size {
+        Size::Wide if rng.one_in(20) => rng.pick(&[4096, 4097, 13_106, 13_107]),
+        Size::Wide => rng.pick(&[2, 3, 63, 64, 65, 66, 127, 128, 129, 300]),
+        Size::Small => rng.range(2, 4),
+    };
+    let line = rng.pick(lines);
+    *lines = (0..n).map(|slot| [&line[..3], &[format!("r{slot}").into()], &line[4..]].concat()).collect();
 }
 
 /// One thing about the lines other than it was; what they say is kept by few of these.
@@ -323,6 +341,9 @@ pub fn read_call(rng: &mut Rng, spec: &Spec, size: Size) -> Call {
     }
     if !lines.is_empty() && (12..=15).contains(&style) {
         bad_lines(rng, &mut lines);
+    }
+    if !lines.is_empty() && style == 18 && rng.one_in(4) {
+        many_slots(rng, &mut lines, size);
     }
     let mut text = joined(&lines);
     if (15..=17).contains(&style) {
