@@ -294,8 +294,8 @@ fn bad_lines(rng: &mut Rng, lines: &mut Vec<Columns>) {
             lines.insert(i, again);
         }
         // Every slot one more, or those from a line on one more or less.
-        14 => lines.iter_mut().for_each(|l| l[3] = format!("r{}", slot(l) + 1).into()),
-        15 => lines[i..].iter_mut().for_each(|l| l[3] = format!("r{}", slot(l) + 1).into()),
+        14 => lines.iter_mut().for_each(|l| l[3] = format!("r{}", slot(l).wrapping_add(1)).into()),
+        15 => lines[i..].iter_mut().for_each(|l| l[3] = format!("r{}", slot(l).wrapping_add(1)).into()),
         16 => lines[i..].iter_mut().for_each(|l| l[3] = format!("r{}", slot(l).saturating_sub(1)).into()),
         _ => lines[i][5].push(b'\r'),
     }
@@ -356,8 +356,8 @@ pub fn read_call(rng: &mut Rng, spec: &Spec, size: Size) -> Call {
     Call::Read { names: mostly_good(rng, &names), family, out: room(rng, needed), text }
 }
 
-/// Every assignment of a short walk, as it is and base by base; of its text every byte left out, the
-/// last ones and the lines cut off, every two lines swapped; tables of all names of one byte.
+/// Every assignment of a short walk, as it is and base by base, in a room of its size and one short; of
+/// its text each byte left out, each front, and each two neighbouring lines swapped.
 pub fn tiny_calls(spec: &Spec, kind: Kind) -> Vec<Call> {
     let names: Vec<Vec<u8>> = (0..spec.lanes.len()).map(|i| vec![b'a' + i as u8]).collect();
     let table = table(&names);

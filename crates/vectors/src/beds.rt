@@ -30,14 +30,7 @@ fn write_in(
     }
 }
 
-fn is_written(
-    image: &[u8],
-    names: &[u8],
-    body: &[u8],
-    rest: usize,
-    at: usize,
-    end: usize,
-) -> bool {
+fn is_written(image: &[u8], names: &[u8], body: &[u8], rest: usize, at: usize, end: usize) -> bool {
     let room = record::next(body, rest, 0);
     let n = record::next(body, rest, 1);
     let words = rooms::left(0, body, record::onward(rest, 2), n);
@@ -104,7 +97,14 @@ fn is_held(image: &[u8], names: &[u8], body: &[u8], rest: usize, at: usize, end:
         return false;
     }
     let mut out = rooms::marked();
-    let r = read_in(image, names, family, &body[from..to], &mut out, room as usize);
+    let r = read_in(
+        image,
+        names,
+        family,
+        &body[from..to],
+        &mut out,
+        room as usize,
+    );
     let reply = [r.refusal, r.place, r.length];
     let out_at = record::onward(at, 3);
     record::is_words(&reply, body, at)
