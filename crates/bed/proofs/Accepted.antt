@@ -1,23 +1,11 @@
--- What the check accepts: short lanes, no empty route, few routes.
-use Prim.Native.Nat.{ℕ, zero, suc, _+_, _-_, _*_, _≤_, _<_}
+-- What the check accepts: no empty route, few routes.
+use Prim.Native.Nat.{ℕ, zero, suc, _+_, _*_, _≤_, _<_}
 use native.Mathlib.Omega.{arith}
-use native.Mathlib.Decide.{decLt}
-use mathlib.Core.Path.{_≡_, refl, sym, ap, _∙_, subst}
-use mathlib.Core.Bool.{Bool, true, false, _&&_}
-use mathlib.Core.List.{List, [], _∷_, _++_, map}
-use lib.Dec.{leb}
-use lib.ListN.{length, drop, getD, List·getD-eq-default, length-drop}
-use borrow.Author.Tests.{leb-true}
-use Rattle.ground.specs.Lists.{within, all}
-use Rattle.ground.proofs.ListLaws.{both, all-at}
+use mathlib.Core.List.{List, [], _∷_, map}
+use lib.ListN.{length, drop, getD, length-drop}
 use Rattle.image.specs.declared.Header.{Header}
-use Rattle.image.specs.declared.Entry.{Entry}
-use Rattle.image.specs.Image.{entries, noEntry}
-use Rattle.image.specs.Panel.{Panel, PanelLane, panelOf, laneAt, noLane, pathsAt}
-use Rattle.image.proofs.Laws.{panel-entry, panel-lanes, entries-length}
+use Rattle.image.specs.Panel.{Panel, panelOf, pathsAt}
 use Rattle.panel.specs.Inner.{Accepted}
-use Rattle.panel.specs.Refusals.{lengthOk}
-use Rattle.evaluate.specs.declared.Segment.{Segment}
 use Rattle.evaluate.specs.Properties.{Each, Matched, First}
 use Rattle.evaluate.specs.Segments.{Route, normalize}
 use Rattle.evaluate.specs.Legal.{LegalRoute, Enters}

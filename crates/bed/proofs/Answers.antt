@@ -1,13 +1,13 @@
 -- Laws of the exported answers: 1 to 8 first, and what follows of each promise.
 use Prim.Native.Nat.{ℕ}
-use mathlib.Core.Path.{_≡_, sym, ap, _∙_}
+use mathlib.Core.Path.{_≡_}
 use mathlib.Core.List.{List}
 use lib.ListN.{length}
 use Rattle.image.specs.declared.Header.{Header}
 use Rattle.image.specs.declared.Opened.{Opened}
 use Rattle.image.specs.declared.Opened.the-variants.{Good, Refused}
 use Rattle.image.specs.Panel.{panelOf}
-use Rattle.graph.specs.Check.{checked, panelRefusal}
+use Rattle.graph.specs.Check.{checked}
 use Rattle.evaluate.specs.Refusals.{at}
 use Rattle.names.specs.Names.{linesOf}
 use Rattle.texts.specs.Bed.{held}

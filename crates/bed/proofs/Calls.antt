@@ -7,21 +7,19 @@ use mathlib.Core.List.{List, [], _∷_}
 use lib.Dec.{leb, eqb}
 use lib.ListN.{length, drop, getD, replicate, length-replicate, getD-replicate}
 use lib.Seq.{take-all}
-use borrow.Author.Tests.{le-leb, lt-leb, leb-true, eq-eqb, ne-eqb}
+use borrow.Author.Tests.{le-leb, lt-leb, leb-true, ne-eqb}
 use Rattle.ground.proofs.ListLaws.{both}
 use Rattle.image.specs.declared.Header.{Header}
 use Rattle.image.specs.declared.Opened.{Opened}
 use Rattle.image.specs.declared.Opened.the-variants.{Good, Refused}
-use Rattle.image.specs.Panel.{Panel, panelOf}
+use Rattle.image.specs.Panel.{panelOf}
 use Rattle.image.proofs.Laws.{panel-lanes}
 use Rattle.panel.specs.Inner.{Accepted}
 use Rattle.graph.specs.Check.{checked, panelRefusal}
-use Rattle.evaluate.specs.declared.Segment.{Segment}
 use Rattle.evaluate.specs.declared.Refusal.{Refusal}
 use Rattle.evaluate.specs.Properties.{Each}
 use Rattle.evaluate.specs.Refusals.{noRefusal, unless, at}
 use Rattle.evaluate.specs.Segments.{SoundSpan, flat}
-use Rattle.evaluate.specs.Words.{decode}
 use Rattle.evaluate.specs.Check.{givenRefusal, andAfter}
 use Rattle.evaluate.proofs.Lists.{append-each}
 use Rattle.evaluate.proofs.Native.{checked-none}

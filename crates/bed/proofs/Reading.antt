@@ -1,17 +1,14 @@
 -- Laws of reading: one for each way through the code.
-use Prim.Native.Nat.{ℕ, zero, suc, _+_, _-_, _*_, _≤_, _<_}
+use Prim.Native.Nat.{ℕ, suc, _+_, _*_, _≤_, _<_}
 use native.Mathlib.Omega.{arith}
 use native.Mathlib.Nat.{zero-add}
 use mathlib.Core.Path.{_≡_, refl, sym, ap, _∙_, subst}
-use mathlib.Core.Bool.{Bool, true, false, true≢false}
-use mathlib.Core.List.{List, [], _∷_, _++_, map}
-use mir.Val.{Fits}
-use mir.Syntax.{w64}
-use borrow.Author.Needs.{fits-under}
+use mathlib.Core.Bool.{Bool, true, false}
+use mathlib.Core.List.{List, [], _∷_, map}
 use lib.Dec.{leb, eqb}
-use lib.ListN.{length, drop, getD, set, length-set, length-drop}
+use lib.ListN.{length, set, length-set, length-drop}
 use lib.Seq.{sets, sets-eq, length-sets, getD-set-same}
-use borrow.Author.Tests.{le-leb, lt-leb, leb-true, leb-false, eq-eqb}
+use borrow.Author.Tests.{le-leb, leb-true, leb-false, eq-eqb}
 use Rattle.ground.specs.Lists.{pick}
 use Rattle.image.specs.declared.Header.{Header}
 use Rattle.image.specs.declared.Family.{Family}
@@ -20,10 +17,8 @@ use Rattle.image.specs.Panel.{Panel, panelOf, pathsAt}
 use Rattle.panel.specs.Inner.{Accepted}
 use Rattle.evaluate.specs.declared.Segment.{Segment}
 use Rattle.evaluate.specs.declared.Refusal.{Refusal}
-use Rattle.evaluate.specs.Refusals.{at}
-use Rattle.evaluate.specs.Segments.{Route, Assignment, apart, flat}
-use Rattle.evaluate.specs.Words.{decode, encode}
-use Rattle.evaluate.specs.Check.{readRefusal, routesRefusal, assignmentRefusal, givenRefusal, over}
+use Rattle.evaluate.specs.Segments.{Route, apart, flat}
+use Rattle.evaluate.specs.Check.{routesRefusal, assignmentRefusal, givenRefusal, over}
 use Rattle.evaluate.proofs.RoundTrips.{decode-encode}
 use Rattle.assignment.specs.Inner.{familyRefusal}
 use Rattle.assignment.proofs.Laws.{routes-refused, routes-overlap, routes-none, number-23, number-24, number-later}
@@ -37,7 +32,7 @@ use Rattle.texts.proofs.Lines.{text-lined, text-slots}
 use Rattle.texts.proofs.Scanning.{first-empty, begun, held-words}
 use Rattle.bed_overlap.specs.Inner.{segmentsFrom}
 use Rattle.bed.specs.declared.BedReply.{BedReply}
-use Rattle.bed.specs.Answers.{roomRefusal, textRefusal, unrefused, replyOf}
+use Rattle.bed.specs.Answers.{textRefusal}
 use Rattle.bed.specs.Inner.{Replied, heldIn}
 use Rattle.bed.proofs.Calls.{refused, refused-by}
 

@@ -2,7 +2,7 @@
 use Prim.Native.Nat.{ℕ, zero, suc, _+_, _≤_, _<_}
 use native.Mathlib.Omega.{arith}
 use mathlib.Core.Path.{_≡_, refl, sym, ap, _∙_}
-use mathlib.Core.Bool.{Bool, true}
+use mathlib.Core.Bool.{true}
 use mathlib.Core.List.{List, [], _∷_}
 use lib.Dec.{leb, ltb, eqb}
 use lib.ListN.{length, take, drop, getD}
@@ -33,7 +33,7 @@ use Rattle.rows.proofs.RowTrips.{Writable}
 use Rattle.texts.specs.Bed.{routesText, textOk, allKnown, held, routesIn}
 use Rattle.texts.proofs.Trips.{Writables, written-ok, written-known, written-held, read-back}
 use Rattle.bed.specs.declared.BedReply.{BedReply}
-use Rattle.bed.specs.Answers.{tableRefusal, roomRefusal, bedText, wordsThenRoom, writingRefusal, textRefusal, readingRefusal, unrefused, replyOf, writeAnswer, writeOut, readAnswer, readOut}
+use Rattle.bed.specs.Answers.{tableRefusal, roomRefusal, bedText, wordsThenRoom, writingRefusal, textRefusal, readingRefusal, unrefused, writeAnswer, writeOut, readAnswer, readOut}
 use Rattle.bed.specs.Theorems.{wrote, WriteHolds, ReadHolds, Writes}
 use Rattle.bed.proofs.Calls.{each-weaker, sound-spans}
 use Rattle.bed.proofs.Accepted.{routes-some, few-routes}
@@ -206,6 +206,7 @@ unrefused-words : (s names ws : List ℕ) (room : ℕ) → panelRefusal s ≡ 0 
 unfolding writeAnswer writingRefusal wordsThenRoom
 unrefused-words s names ws room pn gn table fits = rw (pn, table, given-nowhere (panelOf s) ws gn, le-leb (length (bedText names ws)) room fits)
 
+-- For the reader: what the check accepts is written, and its normal form
 pub writes : Writes
 unfolding checkAnswer checkRefusal wordsRefusal
 writes s names ws n room e table =

@@ -1,11 +1,9 @@
 -- BED computed on panel E with the lanes named anna and b: what is written, what is read, each of 34 to 37 and their order.
-use Prim.Native.Nat.{ℕ, zero, suc, _+_, _*_, _-_, _/_, min, max}
+use Prim.Native.Nat.{ℕ}
 use Prim.Native.String.{String}
 use mathlib.Core.Path.{_≡_, refl}
-use mathlib.Core.Bool.{Bool, true, false}
 use mathlib.Core.List.{List, [], _∷_, _++_}
-use lib.Dec.{leb}
-use lib.ListN.{length, take, replicate}
+use lib.ListN.{replicate}
 use Rattle.ground.specs.Lists.{each, split, sum, all, any, count, keep, after, rising, numbersFrom, distinct}
 use Rattle.ground.specs.Texts.{bytesOf}
 use Rattle.storage.specs.Bytes.{little, number}
@@ -19,14 +17,12 @@ use Rattle.panel.specs.Refusals.{lengthOk, sound4, letter, soundPlace, soundRec
 use Rattle.storage.specs.Orders.{placeOf, placeLt, recordLt, samePort}
 use Rattle.graph.specs.Check.{portsChecked, later, checked}
 use Rattle.graph.specs.PanelE.{panelE}
-use Rattle.evaluate.specs.declared.Segment.{Segment}
-use Rattle.evaluate.specs.declared.AssignmentReply.{AssignmentReply}
 use Rattle.evaluate.specs.declared.Refusal.{Refusal}
 use Rattle.graph.specs.Check.{panelRefusal}
-use Rattle.evaluate.specs.Segments.{Route, joining, normalize, overlap, apart}
-use Rattle.graph.specs.Lookups.{portsAt, bucketLo, bucketHi}
+use Rattle.evaluate.specs.Segments.{joining, apart}
+use Rattle.graph.specs.Lookups.{portsAt}
 use Rattle.evaluate.specs.Words.{encode, readSegments, readRoutes, readAssignment, decode}
-use Rattle.evaluate.specs.Check.{mostWords, leaves, jointRefusal, jointsRefusal, normalRefusal, routeRefusal, routesRefusal, overlapRefusal, assignmentRefusal, givenRefusal}
+use Rattle.evaluate.specs.Check.{leaves, jointRefusal, jointsRefusal, normalRefusal, routeRefusal, routesRefusal, overlapRefusal, assignmentRefusal, givenRefusal}
 use Rattle.search.specs.Sheet.{digits}
 use Rattle.names.specs.Names.{same, cut, linesOf, ended, nameOk, tableOk, laneOf}
 use Rattle.rows.specs.Rows.{rowText, valueFrom, isNumber, isRow, slotOf, segmentOf}

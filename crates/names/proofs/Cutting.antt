@@ -1,19 +1,19 @@
 -- Laws of a text that is cut at a byte.
-use Prim.Native.Nat.{ℕ, zero, suc, _+_, _-_, _≤_, _<_, min}
+use Prim.Native.Nat.{ℕ, zero, suc, _+_, _-_, _≤_, _<_}
 use native.Mathlib.Omega.{arith}
 use native.Mathlib.Nat.{eq-or-lt-of-le}
 use native.Mathlib.Numerals.{add-one}
 use mathlib.Core.Path.{_≡_, refl, sym, ap, _∙_, subst}
-use mathlib.Core.Logic.{_⊎_, inl, inr, ⊎-elim}
-use mathlib.Core.Bool.{Bool, true, false, not, _&&_, true≢false}
+use mathlib.Core.Logic.{⊎-elim}
+use mathlib.Core.Bool.{Bool, true, false, not}
 use mathlib.Core.List.{List, [], _∷_, _++_}
 use lib.Dec.{eqb}
 use lib.ListN.{length, take, drop, getD, set, length-drop, length-take, drop-of-length-le, length-set}
-use lib.Seq.{drop-cons, drop-drop, getD-drop, getD-set-same, getD-set-other, drop-nil}
+use lib.Seq.{drop-cons, drop-drop, getD-drop, getD-set-same, getD-set-other}
 use borrow.Author.Tests.{eq-eqb, ne-eqb, eqb-true, not-true}
 use Rattle.ground.proofs.ListLaws.{both}
 use Rattle.ground.specs.Lists.{pick, all}
-use Rattle.names.specs.Names.{longer, cut, linesOf, ended, none, feed}
+use Rattle.names.specs.Names.{longer, cut, linesOf, ended, none}
 use Rattle.names.specs.Inner.{upTo, Placed, Span, Spans, Cuts}
 
 -- ---- the first byte b
@@ -71,15 +71,6 @@ cut-first b (x ∷ s) h = go (eqb x b) h (cut-first b s)
         → pick t ([] ∷ cut b s) (longer x (cut b s)) ≡ take (length (pick t [] (x ∷ upTo b s))) (x ∷ s) ∷ cut b (drop (length (pick t [] (x ∷ upTo b s))) s)
     go true k ih = refl
     go false k ih = rw (ih (omega arith))
-
-pub up-to-less : (b : ℕ) (s : List ℕ) → length (upTo b s) ≤ length s
-unfolding upTo
-up-to-less b [] = omega arith
-up-to-less b (x ∷ s) = go (eqb x b) (up-to-less b s)
-  where
-    go : (t : Bool) → length (upTo b s) ≤ length s → length (pick t [] (x ∷ upTo b s)) ≤ suc (length s)
-    go true h = omega arith
-    go false h = omega arith
 
 -- without one there is one part
 pub cut-none : (b : ℕ) (s : List ℕ) → length s ≤ length (upTo b s) → cut b s ≡ s ∷ []

@@ -7,16 +7,16 @@ use native.Mathlib.Numerals.{add-one}
 use mathlib.Core.Path.{_≡_, refl, sym, ap, ap₂, _∙_, subst}
 use mathlib.Core.Logic.{_⊎_, inl, inr, ⊎-elim}
 use mathlib.Core.Bool.{Bool, true, false, not, _&&_, _||_, true≢false}
-use mathlib.Core.List.{List, [], _∷_, _++_}
-use lib.Dec.{eqb, ltb}
+use mathlib.Core.List.{List, [], _∷_}
+use lib.Dec.{eqb}
 use lib.ListN.{length, take, drop, getD, set, length-drop, length-take, drop-of-length-le, length-set}
-use lib.Seq.{drop-cons, drop-drop, getD-drop, getD-set-same, getD-set-other, getD-take, length-take-le}
+use lib.Seq.{drop-cons, getD-set-same, getD-set-other, getD-take, length-take-le}
 use borrow.Author.Tests.{eq-eqb, ne-eqb, eqb-true, eqb-false, not-true}
 use Rattle.ground.specs.Lists.{pick, all, any, distinct}
 use Rattle.ground.proofs.ListLaws.{both, AllFrom, all-again, all-fails, all-ends, all-at}
 use Rattle.names.specs.Names.{same, laneOf, none, cut, linesOf, ended, nameOk, tableOk}
 use Rattle.names.proofs.Cutting.{cut-some}
-use Rattle.names.specs.Inner.{Widened, hashFrom, hashOf, lastOf, Chained, Found, Span, Spans, Indexed, Tabled, Twice, Fresh, Linked, Cuts}
+use Rattle.names.specs.Inner.{Widened, hashFrom, hashOf, lastOf, Chained, Found, Span, Spans, Indexed, Tabled, Fresh, Linked, Cuts}
 
 -- ---- sameness
 

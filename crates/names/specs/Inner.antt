@@ -6,7 +6,7 @@ use mathlib.Core.List.{List, [], _∷_}
 use lib.Dec.{eqb}
 use lib.ListN.{length, take, drop, getD}
 use Rattle.ground.specs.Lists.{pick, distinct}
-use Rattle.names.specs.Names.{same, cut, linesOf, tableOk}
+use Rattle.names.specs.Names.{same, cut, tableOk}
 
 pub record Widened (x r : ℕ) : Type 0 where
   pub same : r ≡ x

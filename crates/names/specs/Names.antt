@@ -1,6 +1,6 @@
 -- The name table (02, item 2): "Names come from a lent table, a line for each lane, 1 to 64 printing ASCII bytes without a space,
 -- all different." Every line is ended by a line feed: decided, the last one too.
-use Prim.Native.Nat.{ℕ, zero, suc, _-_}
+use Prim.Native.Nat.{ℕ, suc, _-_}
 use mathlib.Core.Bool.{Bool, true, false, _&&_}
 use mathlib.Core.List.{List, [], _∷_}
 use lib.Dec.{eqb}

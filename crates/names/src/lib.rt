@@ -1,14 +1,12 @@
 // The name table: texts cut at a byte, names, and the lane of a name. Names are chained by a hash of their bytes, so that one walk of a
 // chain tells whether a name stands twice, and which lane has it.
 ghost use mathlib.Core.Path.{_≡_};
-ghost use mathlib.Core.Bool.{true, not, _&&_};
-ghost use mathlib.Core.List.{[], _∷_};
-ghost use Prim.Native.Nat.{_+_, _-_, _≤_, _<_};
-ghost use lib.Dec.{eqb};
-ghost use lib.ListN.{length, take, drop, getD, replicate};
-ghost use Rattle.ground.specs.Lists.{all, distinct};
-ghost use Rattle.names.specs.Names.{same, none, cut, printing, nameOk, tableOk};
-ghost use Rattle.names.specs.Inner.{Widened, upTo, Placed, Span, Spans, Cuts, hashOf, Chained, Found, Indexed, Tabled, Fresh, Linked};
+ghost use mathlib.Core.List.{[]};
+ghost use Prim.Native.Nat.{_+_, _≤_, _<_};
+ghost use lib.ListN.{length, take, getD};
+ghost use Rattle.ground.specs.Lists.{all};
+ghost use Rattle.names.specs.Names.{same, cut, printing, nameOk};
+ghost use Rattle.names.specs.Inner.{Widened, Placed, Span, Spans, Cuts, hashOf, Chained, Found, Indexed, Tabled, Fresh, Linked};
 
 // The longest name.
 pub const LONGEST: usize = 64;

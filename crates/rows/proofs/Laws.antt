@@ -1,16 +1,15 @@
 -- Laws of reading a line: one for each way through the code.
-use Prim.Native.Nat.{ℕ, zero, suc, _+_, _-_, _*_, _/_, _≤_, _<_}
+use Prim.Native.Nat.{ℕ, _+_, _-_, _*_, _/_, _≤_, _<_}
 use native.Mathlib.Omega.{arith}
 use native.Mathlib.Numerals.{add-one}
-use mathlib.Core.Path.{_≡_, refl, sym, ap, ap₂, _∙_, subst}
-use mathlib.Core.Logic.{_⊎_, inl, inr, ⊎-elim}
-use mathlib.Core.Bool.{Bool, true, false, not, _&&_, _||_, true≢false}
+use mathlib.Core.Path.{_≡_, refl, sym, ap, _∙_, subst}
+use mathlib.Core.Bool.{Bool, true, false, _&&_, true≢false}
 use mathlib.Core.List.{List, [], _∷_, _++_, append-assoc}
-use lib.Dec.{eqb, ltb, leb}
+use lib.Dec.{ltb}
 use lib.ListN.{length, take, drop, getD, drop-of-length-le, length-drop}
 use lib.Seq.{drop-cons, take-all}
-use borrow.Author.Tests.{eq-eqb, ne-eqb, eqb-true, eqb-false, lt-ltb, le-ltb, ltb-true, le-leb, lt-leb, leb-true, not-true}
-use Rattle.ground.specs.Lists.{pick, all, within}
+use borrow.Author.Tests.{eq-eqb, ne-eqb, lt-ltb, le-ltb, le-leb, lt-leb}
+use Rattle.ground.specs.Lists.{all}
 use Rattle.ground.proofs.ListLaws.{both}
 use Rattle.search.specs.Sheet.{turnText, decimal}
 use Rattle.evaluate.specs.declared.Segment.{Segment}
@@ -18,12 +17,12 @@ use Rattle.text.specs.Inner.{Put}
 use Rattle.text.proofs.Laws.{put-then}
 use Rattle.names.specs.Names.{same, cut, nameOk, nameAt}
 use Rattle.names.specs.Inner.{Span, Spans, Cuts}
-use Rattle.names.proofs.Laws.{same-equal, equal-same}
+use Rattle.names.proofs.Laws.{same-equal}
 use Rattle.rows.specs.declared.Number.{Number}
 use Rattle.rows.specs.declared.Turn.{Turn}
 use Rattle.rows.specs.declared.Row.{Row}
-use Rattle.rows.specs.Rows.{digit, valueFrom, valueOf, noLeadingZero, tooLarge, isNumber, isSlot, isTurn, isRow, column, slotOf, scoreText, rowText}
-use Rattle.rows.specs.Inner.{DigitsRead, NumberRead, SlotRead, TurnRead, NameSpan, RowHeld, RowRead}
+use Rattle.rows.specs.Rows.{digit, valueFrom, valueOf, noLeadingZero, tooLarge, isNumber, isRow, column, slotOf, scoreText, rowText}
+use Rattle.rows.specs.Inner.{DigitsRead, NumberRead, SlotRead, TurnRead, RowRead}
 use Rattle.rows.proofs.Numbers.{value-grows}
 
 -- ---- digits

@@ -3,16 +3,14 @@ use Prim.Native.Nat.{ℕ, zero, suc, _+_, _-_, _*_, _/_, _%_, _^_, _≤_, _<_}
 use native.Mathlib.Omega.{arith}
 use native.Mathlib.Nat.{eq-or-lt-of-le, pow-suc}
 use native.Mathlib.Decide.{decLt}
-use native.Mathlib.Numerals.{add-one}
-use mathlib.Core.Path.{_≡_, refl, sym, ap, ap₂, _∙_, subst}
-use mathlib.Core.Logic.{_⊎_, inl, inr, ⊎-elim}
-use mathlib.Core.Bool.{Bool, true, false, not, _&&_, _||_, true≢false}
+use mathlib.Core.Path.{_≡_, refl, sym, ap, _∙_}
+use mathlib.Core.Logic.{⊎-elim}
+use mathlib.Core.Bool.{true, _&&_, true≢false}
 use mathlib.Core.List.{List, [], _∷_, _++_}
 use lib.Dec.{eqb, ltb, leb}
-use lib.ListN.{length, drop, getD, length-append, drop-of-length-le}
-use lib.Seq.{drop-cons}
-use borrow.Author.Tests.{eq-eqb, ne-eqb, eqb-true, eqb-false, lt-ltb, le-ltb, ltb-true, le-leb, lt-leb, leb-true, not-true}
-use Rattle.ground.specs.Lists.{pick, all, within}
+use lib.ListN.{length, getD, length-append}
+use borrow.Author.Tests.{ne-eqb, eqb-false, lt-ltb, le-ltb, ltb-true, le-leb, leb-true, not-true}
+use Rattle.ground.specs.Lists.{pick, all}
 use Rattle.ground.proofs.ListLaws.{both}
 use Rattle.search.specs.Sheet.{digits, decimal}
 use Rattle.rows.specs.Rows.{digit, valueFrom, valueOf, noLeadingZero, tooLarge, isNumber}
@@ -203,10 +201,6 @@ number-decimal s h =
     let lt : valueOf s < tooLarge = ltb-true (valueOf s) tooLarge c in
     let p : valueOf s < 10 ^ 20 = rw power (omega arith) in
     spell 19 s b a p
-
-pub number-small : (s : List ℕ) → isNumber s ≡ true → valueOf s < tooLarge
-unfolding isNumber
-number-small s h = ltb-true (valueOf s) tooLarge (both (noLeadingZero s && all digit s) (ltb (valueOf s) tooLarge) h .1)
 
 pub number-digits : (s : List ℕ) → isNumber s ≡ true → all digit s ≡ true
 unfolding isNumber

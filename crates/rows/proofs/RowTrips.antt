@@ -1,15 +1,15 @@
 -- A segment to its line and back, and a line to what it holds and back.
-use Prim.Native.Nat.{ℕ, zero, suc, _+_, _-_, _≤_, _<_}
+use Prim.Native.Nat.{ℕ, _<_}
 use native.Mathlib.Omega.{arith}
-use mathlib.Core.Path.{_≡_, refl, sym, ap, ap₂, _∙_, subst}
-use mathlib.Core.Bool.{Bool, true, false, not, _&&_, _||_, true≢false}
-use mathlib.Core.List.{List, [], _∷_, _++_, append-nil}
-use lib.Dec.{eqb, ltb, leb}
-use lib.ListN.{length, take, drop, getD, length-append}
-use borrow.Author.Tests.{eq-eqb, ne-eqb, eqb-true, lt-ltb, le-leb, leb-true}
-use Rattle.ground.specs.Lists.{pick, all, within}
+use mathlib.Core.Path.{_≡_, refl, sym, ap, ap₂, _∙_}
+use mathlib.Core.Bool.{Bool, true, false, _&&_, _||_, true≢false}
+use mathlib.Core.List.{List, [], _∷_, _++_}
+use lib.Dec.{eqb, leb}
+use lib.ListN.{length, drop, getD}
+use borrow.Author.Tests.{ne-eqb, eqb-true, leb-true}
+use Rattle.ground.specs.Lists.{all, within}
 use Rattle.ground.proofs.ListLaws.{both}
-use Rattle.search.specs.Sheet.{decimal, digits, turnText}
+use Rattle.search.specs.Sheet.{decimal, turnText}
 use Rattle.evaluate.specs.declared.Segment.{Segment}
 use Rattle.names.specs.Names.{same, cut, printing, nameOk, laneOf, nameAt}
 use Rattle.names.proofs.Laws.{same-equal, same-self, lane-named}

@@ -1,14 +1,14 @@
 -- A line of BED (02, item 2): "six columns tab-separated: lane name, start, end, r and the slot number, score 0, strand";
 -- "numbers below 2^64 without leading zeros".
-use Prim.Native.Nat.{ℕ, zero, suc, _+_, _-_, _*_}
+use Prim.Native.Nat.{ℕ, _+_, _-_, _*_}
 use mathlib.Core.Bool.{Bool, true, false, not, _&&_, _||_}
 use mathlib.Core.List.{List, [], _∷_, _++_}
 use lib.Dec.{ltb, eqb}
 use lib.ListN.{length, drop, getD}
-use Rattle.ground.specs.Lists.{pick, within, all}
+use Rattle.ground.specs.Lists.{within, all}
 use Rattle.evaluate.specs.declared.Segment.{Segment}
 use Rattle.search.specs.Sheet.{decimal, turnText}
-use Rattle.names.specs.Names.{tab, feed, same, none, cut, nameOk, laneOf, nameAt}
+use Rattle.names.specs.Names.{tab, same, cut, nameOk, laneOf, nameAt}
 
 -- ---- written
 

@@ -1,16 +1,14 @@
 // A line of BED: its columns, numbers in decimal, slot and strand read; the line written.
 ghost use mathlib.Core.Path.{_≡_};
-ghost use mathlib.Core.Bool.{true, false, _&&_};
+ghost use mathlib.Core.Bool.{false};
 ghost use mathlib.Core.List.{[], _∷_, _++_};
-ghost use Prim.Native.Nat.{_+_, _-_, _*_, _≤_, _<_};
-ghost use lib.Dec.{ltb, eqb};
-ghost use lib.ListN.{length, take, drop, getD};
-ghost use Rattle.ground.specs.Lists.{all};
+ghost use Prim.Native.Nat.{_<_};
+ghost use lib.ListN.{length};
 ghost use Rattle.search.specs.Sheet.{decimal, turnText};
 ghost use Rattle.text.specs.Inner.{Put};
 ghost use Rattle.names.specs.Names.{same, cut, linesOf, nameOk, nameAt};
 ghost use Rattle.names.specs.Inner.{Span, Spans};
-ghost use Rattle.rows.specs.Rows.{digit, noLeadingZero, scoreText, column, rowText};
+ghost use Rattle.rows.specs.Rows.{noLeadingZero, scoreText, column, rowText};
 ghost use Rattle.rows.specs.Inner.{DigitsRead, NumberRead, SlotRead, TurnRead, RowRead};
 
 // A number read, if it is one.

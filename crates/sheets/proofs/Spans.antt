@@ -7,17 +7,12 @@ use mathlib.Core.Bool.{Bool, true, false, not, _||_}
 use mathlib.Core.List.{List, [], _∷_, _++_, map, append-assoc, append-nil, List·Memᴰ}
 use lib.Dec.{leb, ltb, eqb}
 use lib.ListN.{length, getD, List·getD-eq-default}
-use borrow.Author.Tests.{leb-true}
-use Rattle.ground.specs.Lists.{pick, within}
-use Rattle.ground.proofs.ListLaws.{both, all-at}
+use Rattle.ground.specs.Lists.{pick}
 use Rattle.ground.proofs.Members.{mem-at}
 use Rattle.storage.specs.declared.Port.{Port}
 use Rattle.storage.specs.Records.{noPort, cutOffset, cutOf, sameTurn}
 use Rattle.image.specs.declared.Header.{Header}
-use Rattle.image.specs.Image.{entries, noEntry}
-use Rattle.image.specs.Panel.{Panel, PanelLane, panelBy, panelOf, noLane, laneAt, pathsAt}
-use Rattle.image.proofs.Laws.{panel-entry, panel-lanes, entries-length}
-use Rattle.panel.specs.Refusals.{lengthOk}
+use Rattle.image.specs.Panel.{Panel, panelBy, panelOf, laneAt, pathsAt}
 use Rattle.panel.specs.Inner.{Accepted}
 use Rattle.graph.specs.Lookups.{bucketLo, bucketHi}
 use Rattle.graph.proofs.PanelLaws.{lane-low, lane-ends, hub-in-lane}

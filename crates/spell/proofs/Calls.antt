@@ -1,17 +1,16 @@
 -- What the calls spell: the words of the normal form are answered as those given, and crops around switches are the ports' words.
-use Prim.Native.Nat.{ℕ, suc, _+_, _-_, _/_, _≤_, _<_}
+use Prim.Native.Nat.{ℕ, _+_, _-_, _/_, _≤_, _<_}
 use native.Mathlib.Omega.{arith}
 use native.Mathlib.Decide.{decLt}
 use mathlib.Core.Path.{_≡_, refl, sym, ap, ap₂, _∙_, subst}
-use mathlib.Core.Bool.{Bool, true, false}
+use mathlib.Core.Bool.{false}
 use mathlib.Core.List.{List, [], _∷_, _++_, map, List·Memᴰ, cons≢nil}
 use lib.Dec.{eqb}
 use lib.Seq.{take-at, drop-at}
-use lib.ListN.{length, take, drop, getD, length-map, length-append, List·getD-map, List·getD-eq-default}
-use borrow.Author.Tests.{le-leb, ne-eqb}
+use lib.ListN.{length, take, drop, getD, length-map, List·getD-map, List·getD-eq-default}
+use borrow.Author.Tests.{ne-eqb}
 use Rattle.storage.specs.Bytes.{part}
 use Rattle.letters.proofs.Pieces.{part-part}
-use Rattle.ground.specs.Lists.{pick}
 use Rattle.ground.proofs.Members.{mem-at}
 use Rattle.image.specs.Panel.{Panel, panelOf}
 use Rattle.image.proofs.Laws.{panel-k}
@@ -19,18 +18,13 @@ use Rattle.graph.specs.Check.{panelRefusal}
 use Rattle.evaluate.specs.declared.Segment.{Segment}
 use Rattle.evaluate.specs.Properties.{Each}
 use Rattle.evaluate.specs.Refusals.{noRefusal}
-use Rattle.evaluate.specs.Segments.{Route, Assignment, SoundSpan, flat, joinable, joined, joining, normalize, normalForm}
+use Rattle.evaluate.specs.Segments.{Route, SoundSpan, flat, normalize, normalForm}
 use Rattle.evaluate.specs.Legal.{Legal, SoundSpans}
-use Rattle.evaluate.specs.Words.{got, segmentWords, routeWords, encode, decode}
-use Rattle.evaluate.specs.Check.{readNormal, normalWords, givenRefusal}
-use Rattle.evaluate.proofs.Lists.{append-each, each-append}
+use Rattle.evaluate.specs.Words.{got, decode}
+use Rattle.evaluate.specs.Check.{normalWords, givenRefusal}
 use Rattle.evaluate.proofs.Native.{taken}
-use Rattle.evaluate.proofs.NormalForm.{twice, filled-of, sound-normal}
-use Rattle.evaluate.proofs.Ports.{Rows, rows-of}
-use Rattle.evaluate.proofs.CheckLegal.{accepted-legal, legal-accepted}
-use Rattle.evaluate.proofs.RoundTrips.{decode-encode, encode-decode}
+use Rattle.evaluate.proofs.NormalForm.{filled-of}
 use Rattle.words.specs.Inner.{assignmentOf}
-use Rattle.words.proofs.Writing.{segment-words-length}
 use Rattle.letters.specs.Letters.{lettersRefusal}
 use Rattle.assignment.proofs.Given.{given}
 use Rattle.assignment.proofs.Normal.{given-legal, normal-said, normal-given}

@@ -1,22 +1,21 @@
 -- Laws of the words that a text holds, put word by word.
-use Prim.Native.Nat.{ℕ, zero, suc, _+_, _-_, _*_, _≤_, _<_}
+use Prim.Native.Nat.{ℕ, suc, _+_, _*_, _≤_, _<_}
 use native.Mathlib.Omega.{arith}
-use native.Mathlib.Numerals.{add-one, add-two, add-three, add-four}
 use mathlib.Core.Path.{_≡_, refl, sym, ap, ap₂, _∙_, subst}
-use mathlib.Core.Bool.{Bool, true, false, _&&_, _||_, true≢false}
+use mathlib.Core.Bool.{Bool, true, false, _||_}
 use mathlib.Core.List.{List, [], _∷_, _++_, map}
 use mir.Val.{Fits}
 use mir.Syntax.{w64}
 use borrow.Author.Needs.{fits-under}
-use lib.Dec.{leb, ltb, eqb}
-use lib.ListN.{length, take, drop, getD, set, drop-of-length-le, length-append, length-set}
+use lib.Dec.{eqb}
+use lib.ListN.{length, drop, getD, set, drop-of-length-le, length-set}
 use lib.Seq.{sets, length-sets, set-comm, set-set, set-getD, getD-set-same, getD-set-other}
 use borrow.Author.Tests.{eq-eqb, ne-eqb, eqb-true, eqb-false}
 use Rattle.ground.specs.Lists.{pick}
 use Rattle.ground.proofs.ListLaws.{both}
 use Rattle.evaluate.specs.declared.Segment.{Segment}
 use Rattle.evaluate.specs.Segments.{Route}
-use Rattle.evaluate.specs.Words.{bit, segmentWords, routeWords, encode}
+use Rattle.evaluate.specs.Words.{bit, segmentWords}
 use Rattle.words.proofs.Writing.{sets-append}
 use Rattle.names.specs.Names.{linesOf}
 use Rattle.names.proofs.Cutting.{lines-nothing}

@@ -1,28 +1,25 @@
 -- Laws of a text that is read line by line.
-use Prim.Native.Nat.{ℕ, zero, suc, _+_, _-_, _*_, _/_, _≤_, _<_}
+use Prim.Native.Nat.{ℕ, suc, _+_, _-_, _*_, _/_, _≤_, _<_}
 use native.Mathlib.Omega.{arith}
-use mathlib.Core.Path.{_≡_, refl, sym, ap, ap₂, _∙_, subst}
+use mathlib.Core.Path.{_≡_, refl, sym, ap, _∙_, subst}
 use mathlib.Core.Bool.{Bool, true, false, _&&_, _||_, true≢false}
-use mathlib.Core.List.{List, [], _∷_, _++_, map}
-use mir.Val.{Fits}
-use mir.Syntax.{w64}
+use mathlib.Core.List.{List, [], _∷_, map}
 use lib.Dec.{leb, ltb, eqb}
-use lib.ListN.{length, take, drop, getD, drop-of-length-le, length-append, length-drop}
+use lib.ListN.{length, take, drop, getD, drop-of-length-le, length-drop}
 use borrow.Author.Tests.{le-leb, lt-leb, leb-true, leb-false, eq-eqb, ne-eqb, eqb-true, eqb-false}
 use Rattle.ground.specs.Lists.{pick, all}
 use Rattle.ground.proofs.ListLaws.{both}
 use Rattle.evaluate.specs.declared.Segment.{Segment}
-use Rattle.evaluate.specs.Segments.{Route, Assignment}
-use Rattle.evaluate.specs.Words.{segmentWords, routeWords, encode}
-use Rattle.names.specs.Names.{linesOf, ended, tableOk, laneOf, cut}
+use Rattle.evaluate.specs.Segments.{Route}
+use Rattle.evaluate.specs.Words.{routeWords, encode}
+use Rattle.names.specs.Names.{linesOf, ended, laneOf, cut}
 use Rattle.names.specs.Inner.{Placed, Found, Table}
 use Rattle.names.proofs.Cutting.{lines-here, ended-here, not-ended, lines-nothing, ended-nothing}
 use Rattle.names.proofs.Laws as tables
 use Rattle.rows.specs.declared.Row.{Row}
 use Rattle.rows.specs.Rows.{isRow, slotOf, segmentOf, column}
-use Rattle.rows.specs.Inner.{NameSpan, RowHeld, RowRead}
+use Rattle.rows.specs.Inner.{NameSpan, RowRead}
 use Rattle.texts.specs.declared.Scan.{Scan}
-use Rattle.texts.specs.declared.Place.{Place}
 use Rattle.texts.specs.Bed.{slotsFrom, textOk, known, allKnown, onto, gathered, routesIn, held}
 use Rattle.texts.specs.Inner.{Scanned, wordsFrom, placeFor}
 use Rattle.texts.proofs.Lines.{text-slots}

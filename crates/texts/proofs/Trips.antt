@@ -1,17 +1,17 @@
 -- Routes to lines and back, and lines to routes and back.
-use Prim.Native.Nat.{ℕ, zero, suc, _+_, _-_, _≤_, _<_}
+use Prim.Native.Nat.{ℕ, suc, _-_, _<_}
 use native.Mathlib.Omega.{arith}
 use mathlib.Core.Path.{_≡_, refl, sym, ap, ap₂, _∙_, subst}
-use mathlib.Core.Bool.{Bool, true, false, not, _&&_, _||_, true≢false}
+use mathlib.Core.Bool.{Bool, true, false, _&&_, _||_, true≢false}
 use mathlib.Core.List.{List, [], _∷_, _++_, append-nil, append-assoc, map}
-use lib.Dec.{eqb, ltb, leb}
+use lib.Dec.{eqb}
 use lib.ListN.{length, take, drop, getD}
-use borrow.Author.Tests.{eq-eqb, ne-eqb, eqb-true, eqb-false, lt-ltb, ltb-true}
+use borrow.Author.Tests.{eq-eqb, ne-eqb, eqb-true, lt-ltb, ltb-true}
 use Rattle.ground.specs.Lists.{pick, all}
 use Rattle.ground.proofs.ListLaws.{both}
 use Rattle.evaluate.specs.declared.Segment.{Segment}
 use Rattle.evaluate.specs.Properties.{Each}
-use Rattle.evaluate.specs.Segments.{Route, Assignment}
+use Rattle.evaluate.specs.Segments.{Route}
 use Rattle.evaluate.specs.Words.{encode}
 use Rattle.names.specs.Names.{linesOf, ended, none, cut, laneOf}
 use Rattle.names.proofs.Cutting.{lines-append, ended-append, lines-nothing, ended-nothing, joinWith, join-cut, cut-some}

@@ -1,12 +1,12 @@
 -- Routes as BED (02, item 2): the text of an assignment, "a line a segment as given", and the words that a text holds.
-use Prim.Native.Nat.{ℕ, zero, suc}
-use mathlib.Core.Bool.{Bool, true, false, _&&_, _||_}
+use Prim.Native.Nat.{ℕ, suc}
+use mathlib.Core.Bool.{Bool, true, _&&_, _||_}
 use mathlib.Core.List.{List, [], _∷_, _++_, map}
 use lib.Dec.{ltb, eqb}
 use lib.ListN.{length, drop}
 use Rattle.ground.specs.Lists.{pick, all}
 use Rattle.evaluate.specs.declared.Segment.{Segment}
-use Rattle.evaluate.specs.Segments.{Route, Assignment}
+use Rattle.evaluate.specs.Segments.{Route}
 use Rattle.evaluate.specs.Words.{encode}
 use Rattle.names.specs.Names.{feed, linesOf, ended, laneOf}
 use Rattle.rows.specs.Rows.{rowText, isRow, slotOf, segmentOf, column}

@@ -1,10 +1,10 @@
 -- The text's definitions computed: what is written of routes, what a text holds, and which texts have the form.
-use Prim.Native.Nat.{ℕ, zero, suc}
+use Prim.Native.Nat.{ℕ}
 use Prim.Native.String.{String}
 use mathlib.Core.Path.{_≡_, refl}
 use mathlib.Core.Bool.{Bool, true, false}
-use mathlib.Core.List.{List, [], _∷_, _++_, map}
-use lib.ListN.{length, replicate}
+use mathlib.Core.List.{List, [], _∷_}
+use lib.ListN.{replicate}
 use Rattle.ground.specs.Lists.{all, distinct}
 use Rattle.ground.specs.Texts.{bytesOf}
 use Rattle.evaluate.specs.declared.Segment.{Segment}

@@ -1,6 +1,6 @@
 use Rattle.bed.proofs.Writing.{Listing, listing-start, listing-long, listing-route, listing-on, listing-next, listing-ends}
 use Rattle.names.specs.Names.{linesOf}
-use Prim.Native.Nat.{_-_, _≤_, _<_}
+use Prim.Native.Nat.{_-_}
 use borrow.Author.Needs.{needs}
 use Rattle.bed.proofs.put_routes.Statement.{statement}
 use Rattle.bed.proofs.put_routes.Tie as tie

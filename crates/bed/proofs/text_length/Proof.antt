@@ -1,6 +1,6 @@
 use Rattle.bed.proofs.Writing.{Summing, summing-start, summing-route, summing-on, summing-inside, summing-fits, summing-next, summing-ends}
 use Rattle.names.specs.Names.{linesOf}
-use Prim.Native.Nat.{_-_, _≤_, _<_}
+use Prim.Native.Nat.{_-_}
 use borrow.Author.Needs.{needs}
 use Rattle.bed.proofs.text_length.Statement.{statement}
 use Rattle.bed.proofs.text_length.Tie as tie

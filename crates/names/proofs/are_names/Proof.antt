@@ -2,7 +2,7 @@ use Rattle.names.proofs.Laws.{all-again-take, all-fails-take, all-ends-
 use Rattle.ground.proofs.ListLaws.{AllFrom, all-start}
 use Rattle.names.specs.Names.{cut, nameOk}
 use lib.ListN.{take}
-use Prim.Native.Nat.{_-_, _≤_, _<_}
+use Prim.Native.Nat.{_-_}
 use borrow.Author.Needs.{needs}
 use Rattle.names.proofs.are_names.Statement.{statement}
 use Rattle.names.proofs.are_names.Tie as tie

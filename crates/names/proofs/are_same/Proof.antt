@@ -1,5 +1,5 @@
 use Rattle.names.proofs.Laws.{Comparing, comparing-start, comparing-next, comparing-differs, comparing-ends, same-unlike}
-use Prim.Native.Nat.{_-_, _≤_}
+use Prim.Native.Nat.{_-_}
 use borrow.Author.Needs.{needs}
 use Rattle.names.proofs.are_same.Statement.{statement}
 use Rattle.names.proofs.are_same.Tie as tie

@@ -1,6 +1,6 @@
 use Rattle.names.proofs.Laws.{Linking, linking-start, linking-next, linking-fails, linking-ends, linking-index, linking-chained, one-span}
 use Rattle.names.specs.Names.{cut}
-use Prim.Native.Nat.{_-_, _≤_, _<_}
+use Prim.Native.Nat.{_-_}
 use borrow.Author.Needs.{needs}
 use Rattle.names.proofs.chain_names.Statement.{statement}
 use Rattle.names.proofs.chain_names.Tie as tie

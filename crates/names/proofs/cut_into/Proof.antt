@@ -1,7 +1,7 @@
 use Rattle.names.proofs.Cutting.{Filling, filling-start, filling-next, filling-last, filling-ends}
 use lib.ListN.{length, length-set}
 use mathlib.Core.Path.{_≡_}
-use Prim.Native.Nat.{_-_, _≤_, _<_}
+use Prim.Native.Nat.{_-_}
 use borrow.Author.Needs.{needs}
 use Rattle.names.proofs.cut_into.Statement.{statement}
 use Rattle.names.proofs.cut_into.Tie as tie

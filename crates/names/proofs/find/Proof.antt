@@ -3,7 +3,7 @@ use Rattle.names.proofs.Laws.{Seeking, seeking-start, seeking-next, see
 use Rattle.names.specs.Inner.{hashOf}
 use Rattle.names.specs.Names.{cut}
 use mathlib.Core.Path.{_≡_}
-use Prim.Native.Nat.{_-_, _≤_, _<_}
+use Prim.Native.Nat.{_<_}
 use borrow.Author.Needs.{needs}
 use Rattle.names.proofs.find.Statement.{statement}
 use Rattle.names.proofs.find.Tie as tie

@@ -1,7 +1,7 @@
 use Rattle.names.proofs.Laws.{Hashing, hashing-start, hashing-next, hashing-ends}
 use lib.ListN.{length}
 use mathlib.Core.Path.{_≡_}
-use Prim.Native.Nat.{_-_, _≤_}
+use Prim.Native.Nat.{_-_}
 use borrow.Author.Needs.{needs}
 use Rattle.names.proofs.hash.Statement.{statement}
 use Rattle.names.proofs.hash.Tie as tie

@@ -2,7 +2,7 @@ use Rattle.ground.proofs.ListLaws.{AllFrom, all-start, all-again, all-fails, al
 use Rattle.names.specs.Names.{printing}
 use lib.ListN.{length}
 use mathlib.Core.Path.{_≡_}
-use Prim.Native.Nat.{_-_, _≤_}
+use Prim.Native.Nat.{_-_}
 use borrow.Author.Needs.{needs}
 use Rattle.names.proofs.is_printed.Statement.{statement}
 use Rattle.names.proofs.is_printed.Tie as tie

@@ -1,7 +1,7 @@
 use Rattle.names.proofs.Cutting.{Looking, looking-start, looking-found, looking-next, looking-ends}
 use lib.ListN.{length}
 use mathlib.Core.Path.{_≡_}
-use Prim.Native.Nat.{_-_, _≤_}
+use Prim.Native.Nat.{_-_}
 use borrow.Author.Needs.{needs}
 use Rattle.names.proofs.place_of.Statement.{statement}
 use Rattle.names.proofs.place_of.Tie as tie

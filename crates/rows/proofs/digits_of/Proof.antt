@@ -1,7 +1,7 @@
 use Rattle.rows.proofs.Laws.{Spelling, spelling-start, digits-low, digits-high, digits-over, spelling-next, spelling-ends}
 use lib.ListN.{length}
 use mathlib.Core.Path.{_≡_}
-use Prim.Native.Nat.{_-_, _≤_, _<_}
+use Prim.Native.Nat.{_-_}
 use borrow.Author.Needs.{needs}
 use Rattle.rows.proofs.digits_of.Statement.{statement}
 use Rattle.rows.proofs.digits_of.Tie as tie

@@ -1,5 +1,4 @@
 use Rattle.rows.proofs.Laws.{slot-put}
-use Rattle.text.proofs.Laws.{put-then}
 use borrow.Author.Needs.{needs}
 use Rattle.rows.proofs.put_slot.Statement.{statement}
 use Rattle.rows.proofs.put_slot.Tie as tie

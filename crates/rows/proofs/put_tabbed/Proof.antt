@@ -1,5 +1,4 @@
 use Rattle.rows.proofs.Laws.{tab-put}
-use Rattle.text.proofs.Laws.{put-then}
 use borrow.Author.Needs.{needs}
 use Rattle.rows.proofs.put_tabbed.Statement.{statement}
 use Rattle.rows.proofs.put_tabbed.Tie as tie

@@ -1,5 +1,5 @@
-use Rattle.rows.proofs.Laws.{slot-empty, slot-number, slot-other, slot-number-at}
-use Rattle.rows.proofs.Laws.{slot-empty, slot-number, slot-other}
+use Rattle.rows.proofs.Laws.{slot-empty, slot-other, slot-number-at}
+use Rattle.rows.proofs.Laws.{slot-empty, slot-other}
 use borrow.Author.Needs.{needs}
 use Rattle.rows.proofs.slot_of.Statement.{statement}
 use Rattle.rows.proofs.slot_of.Tie as tie

@@ -1,5 +1,4 @@
 use Rattle.texts.proofs.Scanning.{after-new, after-old}
-use borrow.Author.Needs.{needs}
 use Rattle.texts.proofs.after.Statement.{statement}
 use Rattle.texts.proofs.after.Tie as tie
 

@@ -2,7 +2,7 @@ use Rattle.texts.proofs.Scanning.{Scanning, scanning-start, scan-open, 
 use lib.ListN.{length}
 use mathlib.Core.Path.{_≡_}
 use Rattle.names.specs.Names.{linesOf}
-use Prim.Native.Nat.{_-_, _≤_, _<_}
+use Prim.Native.Nat.{_-_}
 use borrow.Author.Needs.{needs}
 use Rattle.texts.proofs.scan_text.Statement.{statement}
 use Rattle.texts.proofs.scan_text.Tie as tie
