@@ -71,7 +71,7 @@ spell_reply  panel_routes_spell(const uint8_t *image, size_t image_len, const ui
 /* routes as BED. names: a line for each lane, in the lanes' order, each ended by a line feed, the last too, and of 1 to 64 bytes from 33 to 126, all
    different; else refusal 34. Of 34 to 37 the place is 0, and a refusal leaves out unchanged; the rest of out stays.
    out begins with a line for each segment as given, route by route: name, start, end, r and the slot, 0, + or -, apart by tabs and ended by a line feed.
-   Refusals 1 to 8, 34, then 22 to 31 of the words, 37: out shorter than the text. A line of a legal assignment has at most 95 bytes */
+   Refusals 1 to 8, 34, then 22 to 31 of the words, 37: out shorter than the text. 25 bytes for each of the words suffice */
 bed_reply    panel_routes_write_bed(const uint8_t *image, size_t image_len, const uint8_t *names, size_t names_len, const uint64_t *words, size_t words_len,
                                     uint8_t *out, size_t out_len);
 /* such lines back into the words they hold, with the family given: out begins with family, route count, then per route its segment count and its segments

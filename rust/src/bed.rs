@@ -27,8 +27,9 @@ pub enum NamesError {
 
 const LONGEST_NAME: usize = 64;
 
-/// Of a legal assignment: a name, two numbers below 2^32, a slot below 64, and what is between.
-const LONGEST_LINE: usize = LONGEST_NAME + 2 * 11 + 4 + 5;
+/// That these suffice for what the check accepts is proved (`RoomSuffices` in the library's
+/// crates/bed/specs/Theorems.antt).
+const BYTES_A_WORD: usize = 25;
 
 /// Of any text that is taken: names and numbers of one byte each.
 const SHORTEST_LINE: usize = 13;
@@ -117,8 +118,7 @@ impl Assignment {
     /// # Ok::<(), Box<dyn std::error::Error>>(())
     /// ```
     pub fn to_bed(&self, panel: &Panel, names: &Names) -> Result<String, Refusal> {
-        let segments: usize = self.routes().map(|r| r.len()).sum();
-        let mut out = vec![0; segments * LONGEST_LINE];
+        let mut out = vec![0; BYTES_A_WORD * self.words().len()];
         let length = self.to_bed_into(panel, names, &mut out)?;
         Ok(String::from_utf8_lossy(&out[..length]).into_owned())
     }

@@ -85,7 +85,7 @@ lanes-few s h acc = acc .counted .framed .fewLanes
 pub places-long : (l : List ℕ) → l ≡ replicate 4098 0 → length l ≡ 4098
 places-long l e = rw e (length-replicate {A = ℕ} 4098 0)
 
-name-short : (s : List ℕ) → nameOk s ≡ true → length s ≤ 64
+pub name-short : (s : List ℕ) → nameOk s ≡ true → length s ≤ 64
 unfolding nameOk
 name-short s e =
     let (a, b) = both (leb 1 (length s) && leb (length s) 64) _ e in

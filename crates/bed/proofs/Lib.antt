@@ -1,4 +1,5 @@
 pub mod Writing
+pub mod Short
 pub mod Calls
 pub mod Reading
 pub mod Accepted

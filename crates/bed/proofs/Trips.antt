@@ -26,7 +26,7 @@ use Rattle.evaluate.proofs.RoundTrips.{encode-decode, decode-encode}
 use Rattle.words.specs.Inner.{routesOf, assignmentOf}
 use Rattle.assignment.proofs.Given.{Given, given}
 use Rattle.assignment.proofs.Normal.{normal-given}
-use Rattle.names.specs.Names.{linesOf, tableOk}
+use Rattle.names.specs.Names.{linesOf, nameAt, tableOk}
 use Rattle.names.proofs.Laws as tables
 use Rattle.rows.specs.Rows.{tooLarge}
 use Rattle.rows.proofs.RowTrips.{Writable}
@@ -34,8 +34,9 @@ use Rattle.texts.specs.Bed.{routesText, textOk, allKnown, held, routesIn}
 use Rattle.texts.proofs.Trips.{Writables, written-ok, written-known, written-held, read-back}
 use Rattle.bed.specs.declared.BedReply.{BedReply}
 use Rattle.bed.specs.Answers.{tableRefusal, roomRefusal, bedText, wordsThenRoom, writingRefusal, textRefusal, readingRefusal, unrefused, writeAnswer, writeOut, readAnswer, readOut}
-use Rattle.bed.specs.Theorems.{wrote, WriteHolds, ReadHolds, Writes}
-use Rattle.bed.proofs.Calls.{each-weaker, sound-spans}
+use Rattle.bed.specs.Theorems.{wrote, WriteHolds, ReadHolds, Writes, RoomSuffices}
+use Rattle.bed.proofs.Calls.{name-short, each-weaker, sound-spans}
+use Rattle.bed.proofs.Short.{Slight, routes-slight}
 use Rattle.bed.proofs.Accepted.{routes-some, few-routes}
 
 -- ---- unrefused writing
@@ -206,10 +207,40 @@ unrefused-words : (s names ws : List ℕ) (room : ℕ) → panelRefusal s ≡ 0 
 unfolding writeAnswer writingRefusal wordsThenRoom
 unrefused-words s names ws room pn gn table fits = rw (pn, table, given-nowhere (panelOf s) ws gn, le-leb (length (bedText names ws)) room fits)
 
+module _ (s names ws : List ℕ) (n : ℕ) (e : checkAnswer s ws n .refusal ≡ 0) where
+  parts : (panelRefusal s ≡ 0) × (givenRefusal (panelOf s) ws .number ≡ 0)
+  unfolding checkAnswer checkRefusal wordsRefusal
+  parts =
+      let (pn, later) = at-zero (panelRefusal s) 0 (at (unless (leb (length ws) n) 21 0) 0 (givenRefusal (panelOf s) ws)) e in
+      (pn, at-zero (unless (leb (length ws) n) 21 0) 0 (givenRefusal (panelOf s) ws) later .1)
+
 -- For the reader: what the check accepts is written, and its normal form
 pub writes : Writes
-unfolding checkAnswer checkRefusal wordsRefusal
 writes s names ws n room e table =
-    let (pn, later) = at-zero (panelRefusal s) 0 (at (unless (leb (length ws) n) 21 0) 0 (givenRefusal (panelOf s) ws)) e in
-    let gn = at-zero (unless (leb (length ws) n) 21 0) 0 (givenRefusal (panelOf s) ws) later .1 in
+    let (pn, gn) = parts s names ws n e in
     (unrefused-words s names ws room pn gn table, unrefused-words s names (normalWords ws) room pn (normal-given s ws pn gn) table)
+
+slight : (s : List ℕ) (h : Header) (names : List ℕ) → Accepted s h → tables.Good names (length (panelOf s .lanes)) → (x : Segment) → SoundSpan (panelOf s) x → Slight (linesOf names) x
+slight s h names acc g x sp =
+    let l = lane-low s h acc (x .source) in
+    let i = sp .inside in
+    let j = sp .some in
+    record { name = name-short (nameAt (linesOf names) (x .source)) (tables.lane-name-ok g (x .source) (sp .lane)); start = omega arith; end = omega arith }
+
+-- For the reader: 25 bytes a word suffice
+pub room-suffices : RoomSuffices
+unfolding encode
+room-suffices s names ws n e table =
+    let (pn, gn) = parts s names ws n e in
+    let w : Written s names ws 0 = record { panel = pn; table = table; given = gn } in
+    let a = acc s names ws 0 w in
+    let k = took s names ws 0 w in
+    let g = tables.good-table names (length (panelOf s .lanes)) table in
+    let h = taken s pn .header in
+    let f = few-routes ws (k .formed) (k .few) in
+    let spans = each-weaker (Each (SoundSpan (panelOf s))) (Each (Slight (linesOf names))) (λ r l. each-weaker (SoundSpan (panelOf s)) (Slight (linesOf names)) (slight s h names a g) r l)
+    (rs s names ws 0 w) (sound-spans s h ws a k) in
+    let short = routes-slight (linesOf names) 0 (rs s names ws 0 w) (omega arith) spans in
+    let t = ap length (text-is s names ws 0 w) in
+    let m = ap length (words-are s names ws 0 w) in
+    omega arith

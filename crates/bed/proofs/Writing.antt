@@ -39,12 +39,10 @@ turn-one : (r : Bool) → length (turnText r) ≡ 1
 turn-one true = refl
 turn-one false = refl
 
-row-short : (ns : List (List ℕ)) (k : ℕ) (s : Segment) → length (nameAt ns (s .source)) ≤ 64 → length (rowText ns k s ++ (10 ∷ [])) ≤ 133
+-- a name, three numbers, and nine bytes more
+pub row-bytes : (ns : List (List ℕ)) (k : ℕ) (s : Segment) → length (rowText ns k s ++ (10 ∷ [])) ≡ length (nameAt ns (s .source)) + length (decimal (s .start)) + length (decimal (s .end)) + length (decimal k) + 9
 unfolding rowText
-row-short ns k s h =
-    let a = digits-few 20 (s .start) in
-    let b = digits-few 20 (s .end) in
-    let c = digits-few 20 k in
+row-bytes ns k s =
     let t = turn-one (s .reverse) in
     let r3 : List ℕ = scoreText ++ (9 ∷ turnText (s .reverse)) in
     let r2 : List ℕ = (114 ∷ decimal k) ++ (9 ∷ r3) in
@@ -55,6 +53,14 @@ row-short ns k s h =
     let l3 = length-append (decimal (s .start)) (9 ∷ r1) in
     let l2 = length-append (decimal (s .end)) (9 ∷ r2) in
     let l1 = length-append (decimal k) (9 ∷ r3) in
+    omega arith
+
+row-short : (ns : List (List ℕ)) (k : ℕ) (s : Segment) → length (nameAt ns (s .source)) ≤ 64 → length (rowText ns k s ++ (10 ∷ [])) ≤ 133
+row-short ns k s h =
+    let e = row-bytes ns k s in
+    let a = digits-few 20 (s .start) in
+    let b = digits-few 20 (s .end) in
+    let c = digits-few 20 k in
     omega arith
 
 module _ {names starts ends : List ℕ} {lanes : ℕ} (nm : Naming names starts ends lanes) (s : Segment) (on : OnLane lanes s) where

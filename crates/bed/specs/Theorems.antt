@@ -1,7 +1,7 @@
 -- Writing and reading undo each other (02, item 2): "Writing and reading back gives the same words for every assignment that the check
 -- accepts in normal form." They do for every assignment that it accepts, normal form or not; and a text that is read, written again, is the
 -- same text. Each call promises its half; that what the check accepts is written at all is a statement besides.
-use Prim.Native.Nat.{ℕ, _≤_}
+use Prim.Native.Nat.{ℕ, _*_, _≤_}
 use mathlib.Core.Path.{_≡_}
 use mathlib.Core.Bool.{true}
 use mathlib.Core.List.{List}
@@ -36,3 +36,8 @@ Writes =
     (s names ws : List ℕ) (n room : ℕ) → checkAnswer s ws n .refusal ≡ 0 → tableOk (length (panelOf s .lanes)) names ≡ true
     → (length (bedText names ws) ≤ room → writeAnswer s names ws room ≡ wrote (length (bedText names ws)))
     × (length (bedText names (normalWords ws)) ≤ room → writeAnswer s names (normalWords ws) room ≡ wrote (length (bedText names (normalWords ws))))
+
+-- 25 bytes of room for each word of such an assignment suffice
+abbrev pub RoomSuffices : Type 0
+RoomSuffices =
+    (s names ws : List ℕ) (n : ℕ) → checkAnswer s ws n .refusal ≡ 0 → tableOk (length (panelOf s .lanes)) names ≡ true → length (bedText names ws) ≤ 25 * length ws
