@@ -62,7 +62,7 @@ at-found r later h = go (r .number) refl
     go zero e = let z : ⊥ = omega arith in absurd z
     go (suc n) e = λ i. record { number = e i; place = r .place }
 
-at-none : (n place : ℕ) (later : Refusal) → n ≡ 0 → at n place later ≡ later
+pub at-none : (n place : ℕ) (later : Refusal) → n ≡ 0 → at n place later ≡ later
 at-none zero place later h = refl
 at-none (suc n) place later h = let z : ⊥ = omega arith in absurd z
 

@@ -21,11 +21,12 @@ use Rattle.evaluate.specs.Properties.{Each}
 use Rattle.evaluate.specs.Refusals.{noRefusal, unless, at}
 use Rattle.evaluate.specs.Segments.{SoundSpan, flat}
 use Rattle.evaluate.specs.Check.{givenRefusal, andAfter}
-use Rattle.evaluate.proofs.Lists.{append-each}
+use Rattle.evaluate.proofs.Lists.{append-each, each-map}
 use Rattle.evaluate.proofs.Native.{checked-none}
 use Rattle.evaluate.proofs.Ports.{rows-of}
 use Rattle.evaluate.proofs.CheckLegal.{at-some, accepted-legal}
 use Rattle.words.specs.Inner.{routesOf, assignmentOf, Formed}
+use Rattle.assignment.proofs.Laws.{at-none}
 use Rattle.assignment.proofs.Given.{Given, given}
 use Rattle.text.specs.Inner.{Put}
 use Rattle.text.proofs.Laws.{put-over, put-count}
@@ -38,10 +39,6 @@ use Rattle.bed.specs.Answers.{tableRefusal, roomRefusal, bedText, wordsT
 use Rattle.bed.specs.Inner.{Naming, OnLane, Ready, Replied, lastRefusal}
 
 -- ---- refusals in order
-
-pub at-none : (n place : ℕ) (later : Refusal) → n ≡ 0 → at n place later ≡ later
-at-none zero place later h = refl
-at-none (suc n) place later h = let z : ⊥ = omega arith in absurd z
 
 -- an answer that refuses
 pub refused : (q : Refusal) (text xs : List ℕ) (r : BedReply) → 0 < q .number → r ≡ record { refusal = q .number; place = q .place; length = 0 } → Replied q text xs xs r
@@ -141,10 +138,6 @@ each-flat : {A : Type 0} (P : A → Type 0) (ls : List (List A)) → Each P (fla
 each-flat P [] h = tt
 each-flat P (l ∷ ls) h = let (a, b) = append-each P l (flat ls) h in (a, each-flat P ls b)
 
-pub each-weaker : {A : Type 0} (P Q : A → Type 0) → ((a : A) → P a → Q a) → (l : List A) → Each P l → Each Q l
-each-weaker P Q f [] h = tt
-each-weaker P Q f (a ∷ l) h = (f a (h .0), each-weaker P Q f l (h .1))
-
 pub sound-spans : (s : List ℕ) (h : Header) (ws : List ℕ) → Accepted s h → Given (panelOf s) ws → Each (Each (SoundSpan (panelOf s))) (routesOf (getD ws 1 0) (drop 2 ws))
 sound-spans s h ws acc t = each-flat (SoundSpan (panelOf s)) (routesOf (getD ws 1 0) (drop 2 ws)) (accepted-legal (panelOf s) (rows-of s h acc) (assignmentOf ws) (t .none) .0)
 
@@ -153,8 +146,8 @@ ready s h ws acc t =
     let n = panel-lanes s h (acc .counted .framed) in
     record {
       parsed = t .formed .parsed;
-      named = each-weaker (Each (SoundSpan (panelOf s))) (Each (OnLane (h .lanes)))
-          (λ r k. each-weaker (SoundSpan (panelOf s)) (OnLane (h .lanes)) (λ x y. subst (λ (m : ℕ). x .source < m) n (y .lane)) r k)
+      named = each-map (Each (SoundSpan (panelOf s))) (Each (OnLane (h .lanes)))
+          (λ r k. each-map (SoundSpan (panelOf s)) (OnLane (h .lanes)) (λ x y. subst (λ (m : ℕ). x .source < m) n (y .lane)) r k)
           (routesOf (getD ws 1 0) (drop 2 ws)) (sound-spans s h ws acc t);
       short = t .few;
     }

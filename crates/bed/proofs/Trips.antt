@@ -20,6 +20,7 @@ use Rattle.evaluate.specs.Refusals.{noRefusal, unless, at}
 use Rattle.evaluate.specs.Segments.{Route, Assignment, SoundSpan}
 use Rattle.evaluate.specs.Words.{Read, malformed, got, decode, encode}
 use Rattle.evaluate.specs.Check.{mostWords, routesRefusal, overlapRefusal, assignmentRefusal, readRefusal, givenRefusal, wordsRefusal, checkRefusal, normalWords, checkAnswer, andAfter, over}
+use Rattle.evaluate.proofs.Lists.{each-map}
 use Rattle.evaluate.proofs.Native.{taken}
 use Rattle.evaluate.proofs.CheckLegal.{unless-zero, at-zero}
 use Rattle.evaluate.proofs.RoundTrips.{encode-decode, decode-encode}
@@ -35,7 +36,7 @@ use Rattle.texts.proofs.Trips.{Writables, written-ok, written-known, written-he
 use Rattle.bed.specs.declared.BedReply.{BedReply}
 use Rattle.bed.specs.Answers.{tableRefusal, roomRefusal, bedText, wordsThenRoom, writingRefusal, textRefusal, readingRefusal, unrefused, writeAnswer, writeOut, readAnswer, readOut}
 use Rattle.bed.specs.Theorems.{wrote, WriteHolds, ReadHolds, Writes, RoomSuffices}
-use Rattle.bed.proofs.Calls.{name-short, each-weaker, sound-spans}
+use Rattle.bed.proofs.Calls.{name-short, sound-spans}
 use Rattle.bed.proofs.Short.{Slight, routes-slight}
 use Rattle.bed.proofs.Accepted.{routes-some, few-routes}
 
@@ -76,7 +77,7 @@ writable s h names acc g k small x sp =
 writables : (s : List ℕ) (h : Header) (names : List ℕ) → Accepted s h → tables.Good names (length (panelOf s .lanes)) → (k : ℕ) (rs : List Route) → k + length rs < tooLarge → Each (Each (SoundSpan (panelOf s))) rs → Each (λ r. 0 < length r) rs → Writables (linesOf names) k rs
 writables s h names acc g k [] small sp some = tt
 writables s h names acc g k (r ∷ rs) small sp some =
-    (some .0, each-weaker (SoundSpan (panelOf s)) (Writable (linesOf names) k) (writable s h names acc g k (omega arith)) r (sp .0), writables s h names acc g (suc k) rs (omega arith) (sp .1) (some .1))
+    (some .0, each-map (SoundSpan (panelOf s)) (Writable (linesOf names) k) (writable s h names acc g k (omega arith)) r (sp .0), writables s h names acc g (suc k) rs (omega arith) (sp .1) (some .1))
 
 module _ (s names ws : List ℕ) (room : ℕ) (w : Written s names ws room) where
   acc : Accepted s (taken s (w .panel) .header)
@@ -238,7 +239,7 @@ room-suffices s names ws n e table =
     let g = tables.good-table names (length (panelOf s .lanes)) table in
     let h = taken s pn .header in
     let f = few-routes ws (k .formed) (k .few) in
-    let spans = each-weaker (Each (SoundSpan (panelOf s))) (Each (Slight (linesOf names))) (λ r l. each-weaker (SoundSpan (panelOf s)) (Slight (linesOf names)) (slight s h names a g) r l)
+    let spans = each-map (Each (SoundSpan (panelOf s))) (Each (Slight (linesOf names))) (λ r l. each-map (SoundSpan (panelOf s)) (Slight (linesOf names)) (slight s h names a g) r l)
     (rs s names ws 0 w) (sound-spans s h ws a k) in
     let short = routes-slight (linesOf names) 0 (rs s names ws 0 w) (omega arith) spans in
     let t = ap length (text-is s names ws 0 w) in

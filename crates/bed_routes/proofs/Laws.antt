@@ -1,5 +1,5 @@
 -- Laws of the routes of a text, line by line and route by route.
-use Prim.Native.Nat.{ℕ, zero, suc, _+_, _-_, _≤_, _<_}
+use Prim.Native.Nat.{ℕ, suc, _+_, _-_, _≤_, _<_}
 use native.Mathlib.Omega.{arith}
 use native.Mathlib.Numerals.{add-one}
 use native.Mathlib.Decide.{decLt}
@@ -18,7 +18,6 @@ use Rattle.image.specs.Inner.{Groups}
 use Rattle.image.specs.Panel.{Panel, panelOf, pathsAt}
 use Rattle.image.proofs.Laws.{family-length}
 use Rattle.evaluate.specs.declared.Segment.{Segment}
-use Rattle.evaluate.specs.declared.Refusal.{Refusal}
 use Rattle.evaluate.specs.Refusals.{noRefusal, at}
 use Rattle.evaluate.specs.Segments.{Route}
 use Rattle.evaluate.specs.Check.{routeRefusal, routesRefusal}
@@ -31,6 +30,7 @@ use Rattle.texts.specs.Bed.{slotsFrom, textOk, onto, gathered, routesIn}
 use Rattle.texts.specs.Inner.{Lined, LineAt}
 use Rattle.texts.proofs.Lines.{text-lined, text-slots}
 use Rattle.texts.proofs.Scanning.{gathered-some}
+use Rattle.routes.proofs.Laws.{at-none, at-found}
 use Rattle.bed_routes.specs.declared.Seen.{Seen}
 use Rattle.bed_routes.specs.declared.Passed.{Passed}
 use Rattle.bed_routes.specs.Inner.{verdict, Begun, Onward, opening, Ahead, routesFrom, Judged}
@@ -182,14 +182,6 @@ routes-start {s} {h} {f} {ns} {text} {n} ok e en =
       left = omega (arith, e, en);
       todo = refl;
     }
-
-at-none : (n i : ℕ) (r : Refusal) → n ≤ 0 → at n i r ≡ r
-at-none zero i r h = refl
-at-none (suc n) i r h = let z : ⊥ = omega arith in absurd z
-
-at-found : (n i : ℕ) (r : Refusal) → 0 < n → record { number = n; place = i } ≡ at n i r
-at-found zero i r h = let z : ⊥ = omega arith in absurd z
-at-found (suc n) i r h = refl
 
 module _ {s : List ℕ} {h : Header} {f : Family} {ns : List (List ℕ)} {text : List ℕ} {n place i : ℕ} (p : RoutesFrom s h f ns text n place i) where
   pub routes-ahead : Ahead text i place

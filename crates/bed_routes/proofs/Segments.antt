@@ -1,7 +1,6 @@
 -- Laws of refusals 25 to 30 of one route, segment by segment.
 use Prim.Native.Nat.{ℕ, zero, suc, _≤_, _<_}
-use native.Mathlib.Omega.{arith}
-use mathlib.Core.Path.{_≡_, refl, ap, _∙_}
+use mathlib.Core.Path.{_≡_, refl, sym, ap, _∙_}
 use mathlib.Core.Bool.{Bool, true, false, not, _&&_}
 use mathlib.Core.List.{[], _∷_}
 use lib.Dec.{eqb}
@@ -11,18 +10,11 @@ use Rattle.evaluate.specs.declared.Segment.{Segment}
 use Rattle.evaluate.specs.Refusals.{unless, orElse}
 use Rattle.evaluate.specs.Segments.{Route, entry, exit, soundSpan, joinable, joined, joining}
 use Rattle.evaluate.specs.Check.{leaves, jointRefusal, jointsRefusal, normalRefusal, routeRefusal}
+use Rattle.routes.proofs.Laws.{or-found, or-none}
 use Rattle.bed_routes.specs.declared.Seen.{Seen}
 use Rattle.bed_routes.specs.Inner.{enteredBy, jointsBy, behind, normalVerdict, verdict, Begun, Onward}
 
 -- ---- the first number that is not 0
-
-or-found : (n m : ℕ) → 0 < n → n ≡ orElse n m
-or-found zero m h = let z : ⊥ = omega arith in absurd z
-or-found (suc n) m h = refl
-
-or-none : (n m : ℕ) → n ≤ 0 → m ≡ orElse n m
-or-none zero m h = refl
-or-none (suc n) m h = let z : ⊥ = omega arith in absurd z
 
 or-zero : (n : ℕ) → orElse n 0 ≡ n
 or-zero zero = refl
@@ -55,10 +47,10 @@ module _ (p : Panel) (w : Seen) where
   joints-had h = or-found (w .number) (pick (w .some) (jointRefusal p (w .before) (w .segment)) 0) h
 
   pub joints-asked : (r : ℕ) → w .number ≤ 0 → w .some ≡ true → r ≡ jointRefusal p (w .before) (w .segment) → r ≡ jointsBy p w
-  joints-asked r h z e = e ∙ rw z (or-none (w .number) (jointRefusal p (w .before) (w .segment)) h)
+  joints-asked r h z e = e ∙ rw z (sym (or-none (w .number) (jointRefusal p (w .before) (w .segment)) h))
 
   pub joints-first : w .number ≤ 0 → w .some ≡ false → 0 ≡ jointsBy p w
-  joints-first h z = rw z (or-none (w .number) 0 h)
+  joints-first h z = rw z (sym (or-none (w .number) 0 h))
 
 -- ---- one segment more
 

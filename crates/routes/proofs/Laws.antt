@@ -166,11 +166,11 @@ pub record JointsFrom (s ws : List ℕ) (first c : Cursor) : Type 0 where
 pub joints-start : {s ws : List ℕ} {c : Cursor} → c .at + 4 * c .left ≤ length ws → JointsFrom s ws c c
 joints-start h = record { room = h; todo = refl }
 
-or-found : (n m : ℕ) → 0 < n → n ≡ orElse n m
+pub or-found : (n m : ℕ) → 0 < n → n ≡ orElse n m
 or-found zero m h = let z : ⊥ = omega arith in absurd z
 or-found (suc n) m h = refl
 
-or-none : (n m : ℕ) → n ≤ 0 → orElse n m ≡ m
+pub or-none : (n m : ℕ) → n ≤ 0 → orElse n m ≡ m
 or-none zero m h = refl
 or-none (suc n) m h = let z : ⊥ = omega arith in absurd z
 
@@ -246,11 +246,11 @@ pub record RoutesFrom (s : List ℕ) (h : Header) (f : Family) (ws : List ℕ) (
 pub routes-start : {s : List ℕ} {h : Header} {f : Family} {ws : List ℕ} {n : ℕ} → Parsed ws n 2 → RoutesFrom s h f ws n 2 0
 routes-start {s} {h} {f} {ws} {n} p = let e : n - 0 ≡ n = omega arith in record { few = omega arith; parsed = rw e p; todo = rw e }
 
-at-none : (n i : ℕ) (r : Refusal) → n ≤ 0 → at n i r ≡ r
+pub at-none : (n i : ℕ) (r : Refusal) → n ≤ 0 → at n i r ≡ r
 at-none zero i r h = refl
 at-none (suc n) i r h = let z : ⊥ = omega arith in absurd z
 
-at-found : (n i : ℕ) (r : Refusal) → 0 < n → record { number = n; place = i } ≡ at n i r
+pub at-found : (n i : ℕ) (r : Refusal) → 0 < n → record { number = n; place = i } ≡ at n i r
 at-found zero i r h = let z : ⊥ = omega arith in absurd z
 at-found (suc n) i r h = refl
 
