@@ -34,14 +34,14 @@ segments-here {ns} {text} {at} {l} d = ap (map (segmentOf ns)) (d .lines) ∙ ap
 pub record Putting (ns : List (List ℕ)) (text : List ℕ) (at to : ℕ) (xs ys : List ℕ) (place from left : ℕ) : Type 0 where
   pub lined : Lined text from
   pub same : length ys ≡ length xs
-  pub few : left ≤ 2048
-  pub here : place + 4 * left ≡ to + 8192
-  pub further : at + 2048 ≤ from + left
+  pub few : left ≤ 1024
+  pub here : place + 4 * left ≡ to + 4096
+  pub further : at + 1024 ≤ from + left
   pub words : sets ys place (segmentWords (take left (segmentsFrom ns text from))) ≡ sets xs to (segmentWords (blockAt ns text at))
-  pub counted : 2048 + length (take left (segmentsFrom ns text from)) ≡ left + length (blockAt ns text at)
-  pub rest : drop left (segmentsFrom ns text from) ≡ drop 2048 (segmentsFrom ns text at)
+  pub counted : 1024 + length (take left (segmentsFrom ns text from)) ≡ left + length (blockAt ns text at)
+  pub rest : drop left (segmentsFrom ns text from) ≡ drop 1024 (segmentsFrom ns text at)
 
-pub putting-start : {ns : List (List ℕ)} {text : List ℕ} {at to : ℕ} {xs : List ℕ} → Lined text at → Putting ns text at to xs xs to at 2048
+pub putting-start : {ns : List (List ℕ)} {text : List ℕ} {at to : ℕ} {xs : List ℕ} → Lined text at → Putting ns text at to xs xs to at 1024
 unfolding blockAt
 putting-start h = record { lined = h; same = refl; few = omega arith; here = omega arith; further = omega arith; words = refl; counted = refl; rest = refl }
 
@@ -52,13 +52,13 @@ module _ {ns : List (List ℕ)} {text : List ℕ} {at to : ℕ} {xs ys : List �
   pub putting-same : length ys ≡ length xs
   putting-same = p .same
 
-  pub putting-sum : to ≤ 8193 → place + 4 ≤ 16389
+  pub putting-sum : to ≤ 4097 → place + 4 ≤ 8197
   putting-sum h = let e = p .here in omega arith
 
-  pub putting-room : 0 < left → to + 8192 ≤ length xs → place + 4 ≤ length ys
+  pub putting-room : 0 < left → to + 4096 ≤ length xs → place + 4 ≤ length ys
   putting-room h k = let e = p .here in let s = p .same in omega arith
 
-  pub putting-few : left ≤ 2048
+  pub putting-few : left ≤ 1024
   putting-few = p .few
 
   pub putting-more : {l : Line} {zs : List ℕ} (s : Segment) → 0 < left → LineAt ns text from l → s ≡ l .segment → zs ≡ sets ys place (segmentWords (s ∷ [])) → Putting ns text at to xs zs (place + 4) (l .next) (left - 1)
@@ -95,41 +95,42 @@ module _ {ns : List (List ℕ)} {text : List ℕ} {at to : ℕ} {xs ys : List �
           })
 
   module _ (nothing : take left (segmentsFrom ns text from) ≡ []) (all : drop left (segmentsFrom ns text from) ≡ segmentsFrom ns text from) (on : at < length text → at < from) where
-    ended : BlockPut ns text at to xs ys (record { count = 2048 - left; next = from })
+    ended : BlockPut ns text at to xs ys (record { count = 1024 - left; next = from })
     ended =
         let z : length (take left (segmentsFrom ns text from)) ≡ 0 = ap length nothing in
         let c = p .counted in
         let f = p .few in
+        let g = p .further in
         record {
           words = sym (ap (λ (x : List Segment). sets ys place (segmentWords x)) nothing) ∙ p .words;
           counted = omega arith;
           few = omega arith;
-          behind = record { rest = sym all ∙ p .rest; lined = p .lined; further = on };
+          behind = record { rest = sym all ∙ p .rest; lined = p .lined; order = omega arith; further = on };
         }
 
-  pub putting-open : (n : ℕ) → n ≡ length text → n ≤ from → BlockPut ns text at to xs ys (record { count = 2048 - left; next = from })
+  pub putting-open : (n : ℕ) → n ≡ length text → n ≤ from → BlockPut ns text at to xs ys (record { count = 1024 - left; next = from })
   putting-open n e h =
       let z = segments-nothing ns text n from e h in
       ended (ap (take left) z ∙ take-nil left) (ap (drop left) z ∙ drop-nil left ∙ sym z) (λ k. omega arith)
 
-  pub putting-full : left ≤ 0 → BlockPut ns text at to xs ys (record { count = 2048; next = from })
+  pub putting-full : left ≤ 0 → BlockPut ns text at to xs ys (record { count = 1024; next = from })
   putting-full h =
       let z : left ≡ 0 = omega arith in
       let f = p .further in
-      let full : 2048 - left ≡ 2048 = omega arith in
+      let full : 1024 - left ≡ 1024 = omega arith in
       subst (λ (k : ℕ). BlockPut ns text at to xs ys (record { count = k; next = from })) full
       (ended (ap (λ (k : ℕ). take k (segmentsFrom ns text from)) z) (ap (λ (k : ℕ). drop k (segmentsFrom ns text from)) z) (λ k. omega arith))
 
 -- ---- a block behind the first ones of a room
 
-module _ {ns : List (List ℕ)} {text : List ℕ} {at count : ℕ} {xs ys : List ℕ} {b : Block} (p : BlockPut ns text at (1 + 4 * count) xs ys b) (long : 16385 ≤ length xs) (few : count ≤ 2048) where
+module _ {ns : List (List ℕ)} {text : List ℕ} {at count : ℕ} {xs ys : List ℕ} {b : Block} (p : BlockPut ns text at (1 + 4 * count) xs ys b) (long : 8193 ≤ length xs) (few : count ≤ 1024) where
   fits : 1 + 4 * count + 4 * length (blockAt ns text at) ≤ length xs
   fits = let c = p .counted in let f = p .few in omega arith
 
   pub next-fits : 1 + 4 * (count + b .count) ≤ length ys
   next-fits = let f = p .few in rw (p .words, length-sets xs (1 + 4 * count) (segmentWords (blockAt ns text at))) (omega arith)
 
-  pub next-few : count + b .count ≤ 4096
+  pub next-few : count + b .count ≤ 2048
   next-few = let f = p .few in omega arith
 
   pub next-told : {zs : List ℕ} (r : Bool) → FirstApart (count + b .count) ys zs r → NextApart ns text at count xs zs (record { apart = r; next = b .next })

@@ -1,21 +1,24 @@
 -- Laws of blocks held against each other: two segments share a base within a block, or one of it and one behind it.
 use Prim.Native.Nat.{ℕ, _+_, _-_, _*_, _≤_, _<_}
 use native.Mathlib.Omega.{arith}
+use native.Mathlib.Decide.{decLt}
 use mathlib.Core.Path.{_≡_, refl, sym, ap, ap₂, _∙_}
 use mathlib.Core.Bool.{Bool, true, false, _&&_, true≢false}
 use mathlib.Core.List.{List, [], _∷_, _++_}
+use lib.Dec.{ltb}
 use lib.ListN.{length, take, replicate, take-append-drop, length-replicate}
 use lib.Seq.{sets, length-sets}
+use borrow.Author.Tests.{ltb-true, ltb-false}
 use Rattle.ground.specs.Lists.{all}
 use Rattle.ground.proofs.ListLaws.{both}
 use Rattle.evaluate.specs.declared.Segment.{Segment}
 use Rattle.evaluate.specs.Segments.{clear, apart}
-use Rattle.evaluate.specs.Words.{segmentWords}
+use Rattle.evaluate.specs.Words.{bit, segmentWords}
 use Rattle.overlap.proofs.Laws.{clear-append}
 use Rattle.texts.specs.Inner.{Lined}
 use Rattle.bed_overlap.specs.declared.Block.{Block}
 use Rattle.bed_overlap.specs.declared.Held.{Held}
-use Rattle.bed_overlap.specs.Inner.{segmentsFrom, blockAt, Behind, BlockPut, standing, FirstApart, NextApart, BlockApart}
+use Rattle.bed_overlap.specs.Inner.{segmentsFrom, blockAt, Behind, BlockPut, standing, NextApart, BlockApart}
 use Rattle.bed_overlap.proofs.Standing.{standing-none, standing-put}
 use Rattle.bed_overlap.proofs.Blocks.{segments-nothing}
 
@@ -69,31 +72,31 @@ both-apart l m e =
 
 block-rest : {ns : List (List ℕ)} {text : List ℕ} {at next : ℕ} → Behind ns text at next → segmentsFrom ns text at ≡ blockAt ns text at ++ segmentsFrom ns text next
 unfolding blockAt
-block-rest {ns} {text} {at} {next} b = sym (ap (λ (l : List Segment). take 2048 (segmentsFrom ns text at) ++ l) (b .rest) ∙ take-append-drop 2048 (segmentsFrom ns text at))
+block-rest {ns} {text} {at} {next} b = sym (ap (λ (l : List Segment). take 1024 (segmentsFrom ns text at) ++ l) (b .rest) ∙ take-append-drop 1024 (segmentsFrom ns text at))
 
 -- ---- against each later one
 
-pub record Meeting (ns : List (List ℕ)) (text : List ℕ) (at count : ℕ) (xs ys : List ℕ) (from : ℕ) : Type 0 where
+pub record Meeting (ns : List (List ℕ)) (text : List ℕ) (at count : ℕ) (xs ys : List ℕ) (from : ℕ) (more : Bool) : Type 0 where
   pub lined : Lined text from
   pub stands : standing count ys ≡ standing count xs
-  pub order : at ≤ from
-  pub known : at < from → apart (standing count xs) ≡ true
+  pub past : more ≡ false → length text ≤ from
+  pub known : more ≡ false → apart (standing count xs) ≡ true
   pub later : apart (segmentsFrom ns text at) ≡ true → apart (segmentsFrom ns text from) ≡ true
   pub todo : (apart (standing count xs) && (crossed (standing count xs) (segmentsFrom ns text from) && apart (segmentsFrom ns text at)))
       ≡ apart (standing count xs ++ segmentsFrom ns text at)
 
-pub meeting-start : {ns : List (List ℕ)} {text : List ℕ} {at count : ℕ} {xs : List ℕ} → Lined text at → Meeting ns text at count xs xs at
+pub meeting-start : {ns : List (List ℕ)} {text : List ℕ} {at count : ℕ} {xs : List ℕ} → Lined text at → Meeting ns text at count xs xs at true
 meeting-start {ns} {text} {at} {count} {xs} l =
     record {
       lined = l;
       stands = refl;
-      order = omega arith;
-      known = λ h. let z : ⊥ = omega arith in absurd z;
+      past = λ h. absurd (true≢false h);
+      known = λ h. absurd (true≢false h);
       later = λ h. h;
       todo = sym (apart-append (standing count xs) (segmentsFrom ns text at));
     }
 
-module _ {ns : List (List ℕ)} {text : List ℕ} {at count : ℕ} {xs ys : List ℕ} {from : ℕ} (m : Meeting ns text at count xs ys from) where
+module _ {ns : List (List ℕ)} {text : List ℕ} {at count : ℕ} {xs ys : List ℕ} {from : ℕ} {more : Bool} (m : Meeting ns text at count xs ys from more) where
   pub meeting-lined : Lined text from
   meeting-lined = m .lined
 
@@ -113,19 +116,23 @@ module _ {ns : List (List ℕ)} {text : List ℕ} {at count : ℕ} {xs ys : List
     rest-apart : apart (segmentsFrom ns text at) ≡ true → Both there (segmentsFrom ns text (r .next))
     rest-apart h = both-apart there (segmentsFrom ns text (r .next)) (sym (ap apart (block-rest (a .behind))) ∙ m .later h)
 
-    pub meeting-less : (n : ℕ) → n ≡ length text → from < n → n - r .next < n - from
-    meeting-less n en lt = let g = a .behind .further (omega arith) in omega arith
+    pub meeting-less : (n : ℕ) → n ≡ length text → more ≡ true → n - r .next + bit (ltb (r .next) n) < n - from + bit more
+    meeting-less n en t = rw t (go (decLt from n) (ltb (r .next) n) refl)
+      where
+        go : Dec (from < n) → (b : Bool) → ltb (r .next) n ≡ b → n - r .next + bit b < n - from + 1
+        go (yes lt) true e = let g = a .behind .further (omega arith) in let i = a .behind .lined .inside in omega arith
+        go (yes lt) false e = let g = a .behind .further (omega arith) in omega arith
+        go (no f) true e = let o = a .behind .order in let q = ltb-true (r .next) n e in let z : ⊥ = omega arith in absurd z
+        go (no f) false e = let o = a .behind .order in omega arith
 
-    pub meeting-again : (n : ℕ) → n ≡ length text → from < n → r .apart ≡ true → Meeting ns text at count xs zs (r .next)
-    meeting-again n en lt e =
+    pub meeting-again : (n : ℕ) → n ≡ length text → r .apart ≡ true → Meeting ns text at count xs zs (r .next) (ltb (r .next) n)
+    meeting-again n en e =
         let c = both-apart here there (sym told ∙ e) in
-        let o = m .order in
-        let g = a .behind .further (omega arith) in
         let on : crossed here (segmentsFrom ns text from) ≡ crossed here (segmentsFrom ns text (r .next)) = crossed-rest ∙ rw (c .cross) in
         record {
           lined = a .behind .lined;
           stands = a .same ∙ m .stands;
-          order = omega arith;
+          past = λ h. let q = ltb-false (r .next) n h in omega arith;
           known = λ h. c .first;
           later = λ h. rest-apart h .second;
           todo = ap (λ (x : Bool). apart here && (x && apart (segmentsFrom ns text at))) (sym on) ∙ m .todo;
@@ -146,30 +153,24 @@ module _ {ns : List (List ℕ)} {text : List ℕ} {at count : ℕ} {xs ys : List
         go true q = absurd (true≢false (sym (pair q) ∙ e))
         go false q = refl
 
-  pub meeting-ends : (n : ℕ) → n ≡ length text → at < n → n ≤ from → (true && apart (segmentsFrom ns text at)) ≡ apart (standing count xs ++ segmentsFrom ns text at)
-  meeting-ends n e lt h =
-      let z = segments-nothing ns text n from e h in
-      let k = m .known (omega arith) in
+  pub meeting-ends : more ≡ false → (true && apart (segmentsFrom ns text at)) ≡ apart (standing count xs ++ segmentsFrom ns text at)
+  meeting-ends h =
+      let z = segments-nothing ns text (length text) from refl (m .past h) in
+      let k = m .known h in
       let c : crossed (standing count xs) (segmentsFrom ns text from) ≡ true = ap (crossed (standing count xs)) z ∙ crossed-nothing (standing count xs) in
       sym (rw (k, c)) ∙ m .todo
 
 -- ---- a block against itself and each later one
 
-module _ {ns : List (List ℕ)} {text : List ℕ} {at : ℕ} {xs ys : List ℕ} {b : Block} (p : BlockPut ns text at 1 xs ys b) (long : 16385 ≤ length xs) where
-  pub block-long : 16385 ≤ length ys
+module _ {ns : List (List ℕ)} {text : List ℕ} {at : ℕ} {xs ys : List ℕ} {b : Block} (p : BlockPut ns text at 1 xs ys b) (long : 8193 ≤ length xs) where
+  pub block-long : 8193 ≤ length ys
   block-long = rw (p .words, length-sets xs 1 (segmentWords (blockAt ns text at))) long
 
   pub block-lined : Lined text (b .next)
   block-lined = p .behind .lined
 
-  pub block-few : b .count ≤ 2048
+  pub block-few : b .count ≤ 1024
   block-few = p .few
-
-  pub block-short : b .count ≤ 4096
-  block-short = let f = p .few in omega arith
-
-  pub block-fits : 1 + 4 * b .count ≤ length ys
-  block-fits = let l = block-long in let f = p .few in omega arith
 
   block-stands : standing (b .count) ys ≡ blockAt ns text at
   block-stands =
@@ -183,15 +184,6 @@ module _ {ns : List (List ℕ)} {text : List ℕ} {at : ℕ} {xs ys : List ℕ} 
   whole : apart (standing (b .count) ys ++ segmentsFrom ns text (b .next)) ≡ apart (segmentsFrom ns text at)
   whole = ap apart (ap (λ (l : List Segment). l ++ segmentsFrom ns text (b .next)) block-stands ∙ sym (block-rest (p .behind)))
 
-  -- nothing is behind the last one
-  pub block-last : {zs : List ℕ} (r : Bool) (n : ℕ) → n ≡ length text → n ≤ b .next → FirstApart (b .count) ys zs r → BlockApart ns text at (record { apart = r; next = b .next })
-  unfolding apart
-  block-last r n e h f =
-      let z = segments-nothing ns text n (b .next) e h in
-      let l = standing (b .count) ys in
-      let t : (r && apart (segmentsFrom ns text (b .next))) ≡ (apart l && (crossed l [] && true)) = ap₂ _&&_ (f .told) (ap apart z ∙ sym (rw (crossed-nothing l))) in
-      record { told = t ∙ sym (apart-append l []) ∙ ap (λ (m : List Segment). apart (l ++ m)) (sym z) ∙ whole; behind = p .behind }
-
   pub block-told : (r : Bool) → (r && apart (segmentsFrom ns text (b .next))) ≡ apart (standing (b .count) ys ++ segmentsFrom ns text (b .next)) → BlockApart ns text at (record { apart = r; next = b .next })
   block-told r e = record { told = e ∙ whole; behind = p .behind }
 
@@ -201,8 +193,8 @@ pub record Going (ns : List (List ℕ)) (text : List ℕ) (at : ℕ) : Type 0 wh
   pub lined : Lined text at
   pub todo : apart (segmentsFrom ns text 0) ≡ apart (segmentsFrom ns text at)
 
-pub room-long : (xs : List ℕ) → xs ≡ replicate 16385 0 → length xs ≡ 16385
-room-long xs e = ap length e ∙ length-replicate {A = ℕ} 16385 0
+pub room-long : (xs : List ℕ) → xs ≡ replicate 8193 0 → length xs ≡ 8193
+room-long xs e = ap length e ∙ length-replicate {A = ℕ} 8193 0
 
 pub going-start : {ns : List (List ℕ)} {text : List ℕ} → Lined text 0 → Going ns text 0
 going-start l = record { lined = l; todo = refl }

@@ -21,19 +21,20 @@ segmentsFrom ns text at = map (segmentOf ns) (linesOf (drop at text))
 
 -- those of the block that begins there
 unfoldable pub blockAt : List (List ℕ) → List ℕ → ℕ → List Segment
-blockAt ns text at = take 2048 (segmentsFrom ns text at)
+blockAt ns text at = take 1024 (segmentsFrom ns text at)
 
 -- the place behind a block
 pub record Behind (ns : List (List ℕ)) (text : List ℕ) (at next : ℕ) : Type 0 where
-  pub rest : segmentsFrom ns text next ≡ drop 2048 (segmentsFrom ns text at)
+  pub rest : segmentsFrom ns text next ≡ drop 1024 (segmentsFrom ns text at)
   pub lined : Lined text next
+  pub order : at ≤ next
   pub further : at < length text → at < next
 
 -- the words of a block have been put from `to` on
 pub record BlockPut (ns : List (List ℕ)) (text : List ℕ) (at to : ℕ) (xs ys : List ℕ) (r : Block) : Type 0 where
   pub words : ys ≡ sets xs to (segmentWords (blockAt ns text at))
   pub counted : r .count ≡ length (blockAt ns text at)
-  pub few : r .count ≤ 2048
+  pub few : r .count ≤ 1024
   pub behind : Behind ns text at (r .next)
 
 -- the segments that stand in a room, its first word aside

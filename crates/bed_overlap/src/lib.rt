@@ -2,7 +2,7 @@
 ghost use mathlib.Core.Path.{_≡_};
 ghost use mathlib.Core.Bool.{_&&_};
 ghost use mathlib.Core.List.{_++_};
-ghost use Prim.Native.Nat.{_+_, _*_, _≤_, _<_};
+ghost use Prim.Native.Nat.{_+_, _*_, _≤_};
 ghost use lib.ListN.{length, drop, getD, replicate};
 ghost use Rattle.evaluate.specs.Segments.{apart};
 ghost use Rattle.words.specs.Inner.{segmentsOf};
@@ -10,6 +10,9 @@ ghost use Rattle.names.specs.Names.{linesOf};
 ghost use Rattle.names.specs.Inner.{Table};
 ghost use Rattle.texts.specs.Inner.{Lined};
 ghost use Rattle.bed_overlap.specs.Inner.{segmentsFrom, standing, BlockPut, FirstApart, NextApart, BlockApart};
+
+// The lines of a block.
+const BLOCK: usize = 1024;
 
 // A block of lines whose segments have been put into a room: how many, and where the next line begins.
 struct Block {
@@ -23,7 +26,7 @@ struct Held {
     next: usize,
 }
 
-// The segments of up to 2,048 lines, from a word on.
+// The segments of a block, from a word on.
 fn put_block(
     room: &mut [u64],
     to: usize,
@@ -36,19 +39,19 @@ fn put_block(
     text: &[u8],
     at: usize,
 ) -> Block
-    requires { ⌜ Table (now names) (now starts) (now ends) (now heads) (now links) lanes × Lined (now text) at × (to + 8192 ≤ length (now room)) × (to ≤ 8193) ⌝ }
+    requires { ⌜ Table (now names) (now starts) (now ends) (now heads) (now links) lanes × Lined (now text) at × (to + 4096 ≤ length (now room)) × (to ≤ 4097) ⌝ }
     ensures { λ r. ⌜ BlockPut (linesOf (now (names .entry))) (now (text .entry)) at to (now (room .entry)) (now (room .exit)) r ⌝ }
 {
     let n = text.len();
     let mut place = to;
     let mut from = at;
-    let mut left: usize = 2048;
+    let mut left = BLOCK;
     while 0 < left {
         let next = place + evaluate::Segment::WORDS;
         let fewer = left - 1;
         if n <= from {
             return Block {
-                count: 2048 - left,
+                count: BLOCK - left,
                 next: from,
             };
         }
@@ -60,7 +63,7 @@ fn put_block(
         left = fewer;
     }
     Block {
-        count: 2048,
+        count: BLOCK,
         next: from,
     }
 }
@@ -75,7 +78,7 @@ fn is_route_apart(words: &[u64], n: usize) -> bool
 
 // The same of the first ones in a room, whose count is put before them.
 fn are_first_apart(room: &mut [u64], count: usize) -> bool
-    requires { ⌜ (1 + 4 * count ≤ length (now room)) × (count ≤ 4096) ⌝ }
+    requires { ⌜ (1 + 4 * count ≤ length (now room)) × (count ≤ 2048) ⌝ }
     ensures { λ r. ⌜ FirstApart count (now (room .entry)) (now (room .exit)) r ⌝ }
 {
     let n = 1 + evaluate::Segment::WORDS * count;
@@ -96,7 +99,7 @@ fn is_next_apart(
     text: &[u8],
     at: usize,
 ) -> Held
-    requires { ⌜ Table (now names) (now starts) (now ends) (now heads) (now links) lanes × Lined (now text) at × (16385 ≤ length (now room)) × (count ≤ 2048) ⌝ }
+    requires { ⌜ Table (now names) (now starts) (now ends) (now heads) (now links) lanes × Lined (now text) at × (8193 ≤ length (now room)) × (count ≤ 1024) ⌝ }
     ensures { λ r. ⌜ NextApart (linesOf (now (names .entry))) (now (text .entry)) at count (now (room .entry)) (now (room .exit)) r ⌝ }
 {
     let to = 1 + evaluate::Segment::WORDS * count;
@@ -108,7 +111,7 @@ fn is_next_apart(
     }
 }
 
-// The same of the first ones and each later block in turn.
+// The same of the first ones and each later block in turn; where there is none, of the first ones alone.
 fn are_later_apart(
     room: &mut [u64],
     count: usize,
@@ -121,12 +124,13 @@ fn are_later_apart(
     text: &[u8],
     at: usize,
 ) -> bool
-    requires { ⌜ Table (now names) (now starts) (now ends) (now heads) (now links) lanes × Lined (now text) at × (at < length (now text)) × (16385 ≤ length (now room)) × (count ≤ 2048) ⌝ }
+    requires { ⌜ Table (now names) (now starts) (now ends) (now heads) (now links) lanes × Lined (now text) at × (8193 ≤ length (now room)) × (count ≤ 1024) ⌝ }
     ensures { λ r. ⌜ (r && apart (segmentsFrom (linesOf (now (names .entry))) (now (text .entry)) at)) ≡ apart (standing count (now (room .entry)) ++ segmentsFrom (linesOf (now (names .entry))) (now (text .entry)) at) ⌝ }
 {
     let n = text.len();
     let mut from = at;
-    while from < n {
+    let mut more = true;
+    while more {
         let later = is_next_apart(
             room,
             count,
@@ -141,6 +145,7 @@ fn are_later_apart(
         );
         if later.apart {
             from = later.next;
+            more = from < n;
         } else {
             return false;
         }
@@ -160,38 +165,31 @@ fn is_block_apart(
     text: &[u8],
     at: usize,
 ) -> Held
-    requires { ⌜ Table (now names) (now starts) (now ends) (now heads) (now links) lanes × Lined (now text) at × (16385 ≤ length (now room)) ⌝ }
+    requires { ⌜ Table (now names) (now starts) (now ends) (now heads) (now links) lanes × Lined (now text) at × (8193 ≤ length (now room)) ⌝ }
     ensures { λ r. ⌜ BlockApart (linesOf (now (names .entry))) (now (text .entry)) at r ⌝ }
 {
-    let n = text.len();
     let b = put_block(room, 1, names, starts, ends, heads, links, lanes, text, at);
-    let count = b.count;
     let next = b.next;
-    if n <= next {
-        let apart = are_first_apart(room, count);
-        Held { apart, next }
-    } else {
-        let apart = are_later_apart(
-            room,
-            count,
-            names,
-            starts,
-            ends,
-            heads,
-            links,
-            lanes,
-            text,
-            next,
-        );
-        Held { apart, next }
-    }
+    let apart = are_later_apart(
+        room,
+        b.count,
+        names,
+        starts,
+        ends,
+        heads,
+        links,
+        lanes,
+        text,
+        next,
+    );
+    Held { apart, next }
 }
 
 // The words of two blocks, and their count.
-fn no_room() -> [u64; 16385]
-    ensures { λ r. ⌜ r ≡ replicate 16385 0 ⌝ }
+fn no_room() -> [u64; 8193]
+    ensures { λ r. ⌜ r ≡ replicate 8193 0 ⌝ }
 {
-    [0u64; 16385]
+    [0u64; 8193]
 }
 
 // Whether no two segments of a text's lines share a base.

@@ -8,7 +8,7 @@ use Rattle.bed_overlap.proofs.are_apart.Statement.{statement}
 use Rattle.bed_overlap.proofs.are_apart.Tie as tie
 
 abbrev Inv-loop : tie.InvT-loop
-Inv-loop names starts ends heads links lanes text n room₀ at₀ room at = Going (linesOf names) text at × (n ≡ length text) × (length room ≡ 16385)
+Inv-loop names starts ends heads links lanes text n room₀ at₀ room at = Going (linesOf names) text at × (n ≡ length text) × (length room ≡ 8193)
 
 abbrev μ-loop : tie.MeasureT-loop
 μ-loop names starts ends heads links lanes text n room₀ at₀ room at = n - at
