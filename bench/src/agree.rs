@@ -1,8 +1,9 @@
 //! The tuned Rust held to the judge, the walk by every word of the answers and of the rooms; and the
-//! plain listing, the letters' check and the spelling held to the tuned ones.
+//! plain listing, the letters' check and the spelling held to the tuned ones; and the tuned writing and
+//! reading of BED held to the judge.
 use crate::tuned::{self, Budget, Panel, Refused};
 use oracle::{
-    calls::{filled, reply_words, Call, Kind, Outcome},
+    calls::{byte_filler, filled, filler, reply_words, Call, Kind, Outcome},
     gen::{self, Rng, Size},
     judge,
     rules::{needs_of, BudgetWords},
@@ -203,5 +204,46 @@ pub fn letters(count: u64) -> bool {
         read += u64::from(spelled.is_ok());
     }
     println!("The spelling is the tuned one on {count} panels with letters, {read} crops of them spelled.");
+    true
+}
+
+/// What the tuned writing or reading answers, and its room.
+fn bed_outcome(image: &[u8], call: &Call) -> Outcome {
+    let (answer, room) = match call {
+        Call::Write { names, words, out } => {
+            let mut bytes: Vec<u8> = (0..*out).map(byte_filler).collect();
+            let answer = tuned::write_bed(image, names, words, &mut bytes);
+            // The judge's bytes are words, and those that stay are a room's of words.
+            let word = |i| if bytes[i] == byte_filler(i) { filler(i) } else { u64::from(bytes[i]) };
+            (answer, (0..*out).map(word).collect())
+        }
+        Call::Read { names, family, text, out } => {
+            let mut room = filled(*out);
+            (tuned::read_bed(image, names, *family, text, &mut room), room)
+        }
+        _ => unreachable!(),
+    };
+    let reply = answer.map_or_else(|(number, place)| vec![number, place, 0], |length| vec![0, 0, length]);
+    Outcome { reply, rooms: vec![room] }
+}
+
+/// On so many random panels with tables of names, assignments and texts.
+pub fn beds(count: u64) -> bool {
+    let mut done = [0, 0];
+    for (kind, done) in [Kind::Write, Kind::Read].into_iter().zip(&mut done) {
+        for i in 0..count {
+            let size = if i % 4 == 0 { Size::Wide } else { Size::Small };
+            let input = gen::input(1, kind, i, size);
+            let image = input.image();
+            let found = bed_outcome(&image, &input.call);
+            if found != judge::outcome(&image, &input.call) {
+                eprintln!("the tuned Rust differs from the judge in {} {i}", kind.name());
+                return false;
+            }
+            *done += u64::from(found.reply[0] == 0);
+        }
+    }
+    let [written, read] = done;
+    println!("The tuned BED agrees with the judge on {count} assignments and texts each, {written} written and {read} read.");
     true
 }

@@ -10,7 +10,7 @@ use oracle::{
     spec::{PortSpec, Spec},
 };
 use original::{door, genome_inference::panel_routes::Scores};
-use panel_routes::{Assignment, Panel, SearchBudget, Segment};
+use panel_routes::{Assignment, Names, Panel, SearchBudget, Segment};
 use std::{env, fs, path::Path, process::ExitCode, time::Instant};
 use table::{Row, Table};
 
@@ -182,14 +182,19 @@ fn panel_check(name: &str, spec: &Spec) -> Row {
     Row::new(format!("panel check, {name}"), ours).tuned(tuned)
 }
 
-/// The first lane whole, in so many pieces; the panel is checked too.
-fn assignment_check(name: &str, spec: &Spec, pieces: u64) -> Row {
-    let image = spec.image();
-    let panel = Panel::new(&image[..]).unwrap();
+/// The first lane whole, in so many pieces.
+fn in_pieces(spec: &Spec, pieces: u64) -> Assignment {
     let length = spec.lanes[0].0;
     let at = |i: u64| i * length / pieces;
     let piece = |i| Segment { source: 0, start: at(i), end: at(i + 1), reverse: false };
-    let assignment = Assignment::new(0, [(0..pieces).map(piece)]).unwrap();
+    Assignment::new(0, [(0..pieces).map(piece)]).unwrap()
+}
+
+/// The first lane in so many pieces; the panel is checked too.
+fn assignment_check(name: &str, spec: &Spec, pieces: u64) -> Row {
+    let image = spec.image();
+    let panel = Panel::new(&image[..]).unwrap();
+    let assignment = in_pieces(spec, pieces);
     let mut out = vec![0; assignment.words().len()];
     let (ours, normal, tuned, used) = side_by_side(
         || panel.check_assignment(&assignment).unwrap(),
@@ -292,6 +297,69 @@ fn letters(table: &mut Table) {
     table.put(letters_check("1,000,000 ports, 1,000,768 letters", &wide));
 }
 
+/// So many lanes of 100,000 bases without a port, and a family of the first.
+fn bare(lanes: usize) -> Spec {
+    Spec { k: 16, lanes: vec![(100_000, 0); lanes], families: vec![vec![0]], ports: vec![] }
+}
+
+/// Names of 20 bytes.
+fn ordinary(lanes: usize) -> Names {
+    Names::new((0..lanes).map(|i| format!("accession-{i:010}"))).unwrap()
+}
+
+/// Names of 20 bytes that the library has in one chain: the last three bytes are chosen for it.
+fn in_one_chain(lanes: usize) -> Names {
+    let hash = |h: u64, bytes: &[u8]| bytes.iter().fold(h, |h, b| (131 * h + u64::from(*b)) % 1_048_573);
+    let printing = || 33..=126u8;
+    let ends = || printing().flat_map(|a| printing().flat_map(move |b| printing().map(move |c| [a, b, c])));
+    let name = |i| {
+        let front = format!("accession-{i:07}").into_bytes();
+        let h = hash(0, &front);
+        let end = ends().find(|end| hash(h, end) % 4096 == 0).unwrap();
+        [&front[..], &end].concat()
+    };
+    Names::new((0..lanes).map(name)).unwrap()
+}
+
+/// The first lane in so many pieces written as BED, and read, whole calls: the image, the names and the
+/// assignment are checked each time.
+fn bed_rows(table: &mut Table, name: &str, spec: &Spec, names: &Names, pieces: u64) {
+    let (image, lines) = (spec.image(), names.as_str().as_bytes());
+    let panel = Panel::new(&image[..]).unwrap();
+    let assignment = in_pieces(spec, pieces);
+    let words = assignment.words();
+    let segments = if pieces == 1 { "segment" } else { "segments" };
+    let text = assignment.to_bed(&panel, names).unwrap();
+    let [mut out, mut room] = [(); 2].map(|_| vec![0; text.len()]);
+    let (ours, length, tuned, same) = side_by_side(
+        || assignment.to_bed_into(&panel, names, &mut out).unwrap(),
+        || tuned::write_bed(&image, lines, words, &mut room).unwrap(),
+    );
+    assert_eq!((length, same), (text.len(), text.len() as u64));
+    assert!(out == text.as_bytes() && out == room);
+    table.put(Row::new(format!("writing BED, {name}, {pieces} {segments}"), ours).tuned(tuned));
+
+    let [mut out, mut room] = [(); 2].map(|_| vec![0; words.len()]);
+    let (ours, length, tuned, same) = side_by_side(
+        || panel.read_bed_into(names, 0, &text, &mut out).unwrap(),
+        || tuned::read_bed(&image, lines, 0, text.as_bytes(), &mut room).unwrap(),
+    );
+    assert_eq!((length, same), (words.len(), words.len() as u64));
+    assert!(out == words && out == room);
+    table.put(Row::new(format!("reading BED, {name}, {pieces} {segments}"), ours).tuned(tuned));
+}
+
+fn beds(table: &mut Table) {
+    let pool = large::pooled(SEED, 200);
+    for pieces in [1, 10_000] {
+        bed_rows(table, "8 lanes, 3,200 ports", &pool, &ordinary(8), pieces);
+    }
+    bed_rows(table, "2 lanes", &bare(2), &ordinary(2), 16_383);
+    let many = bare(4096);
+    bed_rows(table, "4,096 lanes", &many, &ordinary(4096), 1);
+    bed_rows(table, "4,096 lanes, names in one chain", &many, &in_one_chain(4096), 1);
+}
+
 /// Counts from the least on, as many different ones as twice the background.
 fn lower_bound(name: &str, n: u64, background: f64, least: u64) -> Row {
     let mut rng = Rng::new(SEED, 12, n);
@@ -334,6 +402,7 @@ fn run(folder: &Path) {
     table.put(lower_bound("1,000,000 counts, all above", 1_000_000, 50.0, 100));
     table.put(lower_bound("1,000,000 counts, half above", 1_000_000, 50.0, 0));
     letters(&mut table);
+    beds(&mut table);
 }
 
 fn main() -> ExitCode {
@@ -341,7 +410,8 @@ fn main() -> ExitCode {
     match words.iter().map(String::as_str).collect::<Vec<_>>()[..] {
         ["agree", count] => {
             let count = count.parse().expect("a count");
-            let agree = agree::with_judge(count) && agree::plain(count) && agree::letters(count);
+            let walks = agree::with_judge(count) && agree::plain(count);
+            let agree = walks && agree::letters(count) && agree::beds(count);
             ExitCode::from(u8::from(!agree))
         }
         [] => {
@@ -355,8 +425,12 @@ fn main() -> ExitCode {
             letters(&mut Table::begin());
             ExitCode::SUCCESS
         }
+        ["beds"] => {
+            beds(&mut Table::begin());
+            ExitCode::SUCCESS
+        }
         _ => {
-            eprintln!("usage: bench, bench letters, or bench agree COUNT");
+            eprintln!("usage: bench, bench letters, bench beds, or bench agree COUNT");
             ExitCode::from(2)
         }
     }

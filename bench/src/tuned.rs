@@ -1,8 +1,10 @@
 //! The rule of document 01 as an in-memory Rust walk written for speed: every port's hub and
 //! every hub member's landing are tables, the stack's top is held apart, the loop turns once
 //! for each unit and allocates nothing, and the piece up to an open hub is tested once.
+mod beds;
 mod letters;
 
+pub use beds::{read_bed, write_bed};
 pub use letters::spell;
 use std::ops::Range;
 
