@@ -4,7 +4,7 @@ use native.Mathlib.Omega.{arith}
 use native.Mathlib.Decide.{decLt}
 use mathlib.Core.Path.{_≡_, refl, sym, ap, ap₂, _∙_}
 use mathlib.Core.Bool.{Bool, true, false, _&&_, true≢false}
-use mathlib.Core.List.{List, [], _∷_, _++_}
+use mathlib.Core.List.{List, [], _∷_, _++_, map}
 use lib.Dec.{ltb}
 use lib.ListN.{length, take, replicate, take-append-drop, length-replicate}
 use lib.Seq.{sets, length-sets}
@@ -15,6 +15,8 @@ use Rattle.evaluate.specs.declared.Segment.{Segment}
 use Rattle.evaluate.specs.Segments.{clear, apart}
 use Rattle.evaluate.specs.Words.{bit, segmentWords}
 use Rattle.overlap.proofs.Laws.{clear-append}
+use Rattle.names.specs.Names.{linesOf}
+use Rattle.rows.specs.Rows.{segmentOf}
 use Rattle.texts.specs.Inner.{Lined}
 use Rattle.bed_overlap.specs.declared.Block.{Block}
 use Rattle.bed_overlap.specs.declared.Held.{Held}
@@ -192,6 +194,11 @@ module _ {ns : List (List ℕ)} {text : List ℕ} {at : ℕ} {xs ys : List ℕ} 
 pub record Going (ns : List (List ℕ)) (text : List ℕ) (at : ℕ) : Type 0 where
   pub lined : Lined text at
   pub todo : apart (segmentsFrom ns text 0) ≡ apart (segmentsFrom ns text at)
+
+-- one pass has told it
+pub all-spread : (ns : List (List ℕ)) (text : List ℕ) (r : Bool) → (r ≡ true → apart (map (segmentOf ns) (linesOf text)) ≡ true) → r ≡ true → true ≡ apart (segmentsFrom ns text 0)
+unfolding segmentsFrom
+all-spread ns text r h t = sym (h t)
 
 pub room-long : (xs : List ℕ) → xs ≡ replicate 8193 0 → length xs ≡ 8193
 room-long xs e = ap length e ∙ length-replicate {A = ℕ} 8193 0

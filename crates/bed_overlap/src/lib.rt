@@ -205,6 +205,9 @@ pub fn are_apart(
     requires { ⌜ Table (now names) (now starts) (now ends) (now heads) (now links) lanes × Lined (now text) 0 ⌝ }
     ensures { λ r. ⌜ r ≡ apart (segmentsFrom (linesOf (now (names .entry))) (now (text .entry)) 0) ⌝ }
 {
+    if bed_spread::is_spread(names, starts, ends, heads, links, lanes, text) {
+        return true;
+    }
     let n = text.len();
     let mut room = no_room();
     let mut at: usize = 0;

@@ -24,7 +24,7 @@ fn is_off(s: evaluate::Segment, t: evaluate::Segment) -> bool
 }
 
 // The chain of a segment: 01 has up to 4,096 lanes.
-fn chain_of(s: evaluate::Segment) -> usize
+pub fn chain_of(s: evaluate::Segment) -> usize
     ensures { λ r. ⌜ (r ≡ bucket s) × (r < 4096) ⌝ }
 {
     (s.source % 4096) as usize
@@ -48,7 +48,7 @@ fn is_clear_of(words: &[u64], links: &[usize; 16384], s: evaluate::Segment, head
 }
 
 // Whether a segment lies behind or before all that is between two numbers.
-fn is_outside(s: evaluate::Segment, low: u64, top: u64) -> bool
+pub fn is_outside(s: evaluate::Segment, low: u64, top: u64) -> bool
     ensures { λ r. ⌜ r ≡ outside s low top ⌝ }
 {
     if words::is_up_to(top, s.start) {
@@ -83,7 +83,7 @@ fn lesser(a: u64, b: u64) -> u64
     if a < b { a } else { b }
 }
 
-fn greater(a: u64, b: u64) -> u64
+pub fn greater(a: u64, b: u64) -> u64
     ensures { λ r. ⌜ r ≡ max a b ⌝ }
 {
     if a < b { b } else { a }
@@ -156,14 +156,14 @@ fn no_links() -> [usize; 16384]
 }
 
 // Of an empty chain: no start is above this, so the first one takes its place.
-fn no_lows() -> [u64; 4096]
+pub fn no_lows() -> [u64; 4096]
     ensures { λ r. ⌜ r ≡ replicate 4096 18446744073709551615 ⌝ }
 {
     [u64::MAX; 4096]
 }
 
 // Of an empty chain: every start is at or behind this.
-fn no_tops() -> [u64; 4096]
+pub fn no_tops() -> [u64; 4096]
     ensures { λ r. ⌜ r ≡ replicate 4096 0 ⌝ }
 {
     [0u64; 4096]
