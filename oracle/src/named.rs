@@ -293,10 +293,10 @@ fn bad_lines(rng: &mut Rng, lines: &mut Vec<Columns>) {
             let again = lines[j].clone();
             lines.insert(i, again);
         }
-        // Every slot one more, or those from a line on one more or less: before 0 is 2^64 - 1.
+        // Every slot one more, or those from a line on one more or less.
         14 => lines.iter_mut().for_each(|l| l[3] = format!("r{}", slot(l).wrapping_add(1)).into()),
         15 => lines[i..].iter_mut().for_each(|l| l[3] = format!("r{}", slot(l).wrapping_add(1)).into()),
-        16 => lines[i..].iter_mut().for_each(|l| l[3] = format!("r{}", slot(l).wrapping_sub(1)).into()),
+        16 => lines[i..].iter_mut().for_each(|l| l[3] = format!("r{}", slot(l).saturating_sub(1)).into()),
         _ => lines[i][5].push(b'\r'),
     }
 }
