@@ -1,4 +1,6 @@
 // One unit of the walk on the top frame (search.rs, Frame::advance).
+#![tactic(auto)]
+
 ghost use Rattle.std.specs.Prelude.{◌≡◌, true, false, ◌+◌, ◌*◌, ◌≤◌, ◌<◌, length, get_or};
 ghost use Rattle.storage.specs.Records.{no_port};
 ghost use Rattle.image.specs.Image.{ports_of};
@@ -30,7 +32,7 @@ pub fn enter(image: &[u8], h: image::Header, starts: &[usize; 4096], f: Stored) 
 }
 
 // What a unit does.
-#[derive(Drop)]
+#[derive(Clone, Copy)]
 pub enum Action {
     Leave,
     Pass,
@@ -39,7 +41,7 @@ pub enum Action {
 }
 
 // What it does, the frame as it is then, the hub members taken, and whether the piece to the open hub's port is clear of the path.
-#[derive(Drop)]
+#[derive(Clone, Copy)]
 pub struct Turn {
     pub action: Action,
     pub frame: Stored,

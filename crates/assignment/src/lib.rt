@@ -1,4 +1,6 @@
 // The assignment check (evaluate.rs, validate_assignment without the DNA): refusals 21 to 31.
+#![tactic(auto)]
+
 ghost use Rattle.std.specs.Prelude.{◌≡◌, ◌≤◌, ◌<◌, length, get_or};
 ghost use Rattle.image.specs.Inner.{Grouped, Groups};
 ghost use Rattle.image.specs.Panel.{panel_of};

@@ -90,7 +90,7 @@ name_short s e =
 
 module _ {names starts ends heads links : List ℕ} {lanes : ℕ} {b : Bool} (t : Tabled names starts ends heads links lanes b) (yes : b ≡ true) where
   good : tables.Good names lanes
-  good = tables.good-table names lanes (sym t.told ∙ yes)
+  good = tables.good_table names lanes (sym t.told ∙ yes)
 
   pub table_naming : Naming names starts ends lanes
   table_naming =
@@ -98,7 +98,7 @@ module _ {names starts ends heads links : List ℕ} {lanes : ℕ} {b : Bool} (t 
       record {
         few = ix.few;
         spans = λ j lt. subst (λ (p : List ℕ). Span names starts ends j p) (sym (tables.line_at good j lt)) (ix.spans j lt);
-        short = λ j lt. name_short (get_or (lines_of names) j []) (tables.lane-name-ok good j lt);
+        short = λ j lt. name_short (get_or (lines_of names) j []) (tables.lane_name_ok good j lt);
       }
 
   pub table_read : Table names starts ends heads links lanes

@@ -21,9 +21,8 @@ use Rattle.evaluate.specs.Segments.{Route, apart, flat}
 use Rattle.evaluate.specs.Check.{routes_refusal, assignment_refusal, given_refusal, over}
 use Rattle.evaluate.proofs.RoundTrips.{decode_encode}
 use Rattle.assignment.specs.Inner.{family_refusal}
-use Rattle.assignment.proofs.Laws.{flat_sound, routes_refused, routes_overlap, routes_none, number_23, number_24, number_later}
+use Rattle.assignment.proofs.Laws.{routes_refused, routes_overlap, routes_none, number_23, number_24, number_later}
 use Rattle.assignment.proofs.Given.{given_many}
-use Rattle.overlap.specs.Inner.{Filled}
 use Rattle.names.specs.Names.{lines_of}
 use Rattle.rows.specs.Rows.{slot_of, segment_of}
 use Rattle.texts.specs.declared.Scan.{Scan}
@@ -65,9 +64,6 @@ module _ (s : List ℕ) (h : Header) (names text : List ℕ) (f : Family) (g : G
     (r : Refusal) (er : r ≡ routes_refusal (panel_of s) 0 (paths_at (panel_of s) f.number) (routes_in (lines_of names) (lines_of text))) where
   pub lines_refused : 0 < r.number → r ≡ family_refusal (panel_of s) (held_in names f.number text)
   lines_refused = routes_refused s h (held_in names f.number text) f g refl el r er
-
-  pub lines_filled : r.number ≤ 0 → Filled (segments_from (lines_of names) text 0)
-  lines_filled none = rw (flat_lines (lines_of names) text ok) (flat_sound s h (held_in names f.number text) f g refl el r er none)
 
   module _ (none : r.number ≤ 0) (b : Bool) (eb : b ≡ apart (segments_from (lines_of names) text 0)) where
     pub lines_overlap : (x : Refusal) → b ≡ false → x ≡ record { number = 31; place = 0 } → x ≡ family_refusal (panel_of s) (held_in names f.number text)
@@ -130,7 +126,7 @@ module _ (ns : List (List ℕ)) (family : ℕ) (text : List ℕ) (ok : text_ok t
 
 -- ---- 22, and the answer
 
-module _ {ns : List (List ℕ)} {text : List ℕ} (c : Scan) (sc : Scanned ns text c) (good : c.well-formed ≡ true) where
+module _ {ns : List (List ℕ)} {text : List ℕ} (c : Scan) (sc : Scanned ns text c) (good : c.good ≡ true) where
   pub scan_ok : text_ok text ≡ true
   scan_ok = sym sc.good ∙ good
 
@@ -147,7 +143,7 @@ module _ {ns : List (List ℕ)} {text : List ℕ} (c : Scan) (sc : Scanned ns te
     pub words_routes : c.routes ≤ 65536
     words_routes = let k = words_short in omega arith
 
-module _ (p : Panel) (names : List ℕ) (family : ℕ) (text : List ℕ) (c : Scan) (sc : Scanned (lines_of names) text c) (good : c.well-formed ≡ true) (b : Bool) (eb : b ≡ leb (2 + c.routes + 4 * c.lines) 65536) where
+module _ (p : Panel) (names : List ℕ) (family : ℕ) (text : List ℕ) (c : Scan) (sc : Scanned (lines_of names) text c) (good : c.good ≡ true) (b : Bool) (eb : b ≡ leb (2 + c.routes + 4 * c.lines) 65536) where
   abbrev ws : List ℕ
   ws = held (lines_of names) family text
 
@@ -176,15 +172,15 @@ module _ (p : Panel) (names : List ℕ) (family : ℕ) (text : List ℕ) (c : Sc
 
 -- ---- 35, 36, 37
 
-pub room_fits : {ns : List (List ℕ)} {text : List ℕ} (c : Scan) → Scanned ns text c → c.well-formed ≡ true → (b : Bool) (room : ℕ) → b ≡ leb (2 + c.routes + 4 * c.lines) room → b ≡ true → (family : ℕ) → length (held ns family text) ≤ room
+pub room_fits : {ns : List (List ℕ)} {text : List ℕ} (c : Scan) → Scanned ns text c → c.good ≡ true → (b : Bool) (room : ℕ) → b ≡ leb (2 + c.routes + 4 * c.lines) room → b ≡ true → (family : ℕ) → length (held ns family text) ≤ room
 room_fits c sc good b room eb t family = let l = sc.words good family in let k = leb-true (2 + c.routes + 4 * c.lines) room (sym eb ∙ t) in omega arith
 
 module _ (p : Panel) (ns : List (List ℕ)) (family : ℕ) (text xs ys : List ℕ) (r : BedReply) (c : Scan) (sc : Scanned ns text c) where
-  pub text_35 : c.well-formed ≡ false → r ≡ record { refusal = 35; place = 0; length = 0 } → Replied (text_refusal p ns family text (length xs)) (held ns family text) xs xs r
+  pub text_35 : c.good ≡ false → r ≡ record { refusal = 35; place = 0; length = 0 } → Replied (text_refusal p ns family text (length xs)) (held ns family text) xs xs r
   unfolding text_refusal
   text_35 z e = let f : text_ok text ≡ false = sym sc.good ∙ z in refused_by (text_refusal p ns family text (length xs)) 34 (held ns family text) xs r (rw f) e
 
-  module _ (good : c.well-formed ≡ true) where
+  module _ (good : c.good ≡ true) where
     formed : text_ok text ≡ true
     formed = sym sc.good ∙ good
 

@@ -66,7 +66,7 @@ writable s h names acc g k small x sp =
     let c = g.count in
     let o = sp.lane in
     record {
-      name = tables.lane-name-ok g x.source sp.lane;
+      name = tables.lane_name_ok g x.source sp.lane;
       start = omega arith;
       end = omega arith;
       slot = small;
@@ -91,7 +91,7 @@ module _ (s names ws : List ℕ) (room : ℕ) (w : Written s names ws room) wher
 
   ready : Writables (lines_of names) 0 rs
   ready =
-      let g = tables.good-table names (length (panel_of s).lanes) w.table in
+      let g = tables.good_table names (length (panel_of s).lanes) w.table in
       let f = few_routes ws took.formed took.few in
       writables s (taken s w.panel).header names acc g 0 rs (omega arith) (sound_spans s (taken s w.panel).header ws acc took) (routes_some s (taken s w.panel).header ws acc took)
 
@@ -226,7 +226,7 @@ slight s h names acc g x sp =
     let l = lane_low s h acc x.source in
     let i = sp.inside in
     let j = sp.some in
-    record { name = name_short (name_at (lines_of names) x.source) (tables.lane-name-ok g x.source sp.lane); start = omega arith; end = omega arith }
+    record { name = name_short (name_at (lines_of names) x.source) (tables.lane_name_ok g x.source sp.lane); start = omega arith; end = omega arith }
 
 -- For the reader: 25 bytes a word suffice
 pub room_suffices : RoomSuffices
@@ -236,7 +236,7 @@ room_suffices s names ws n e table =
     let w : Written s names ws 0 = record { panel = pn; table = table; given = gn } in
     let a = acc s names ws 0 w in
     let k = took s names ws 0 w in
-    let g = tables.good-table names (length (panel_of s).lanes) table in
+    let g = tables.good_table names (length (panel_of s).lanes) table in
     let h = (taken s pn).header in
     let f = few_routes ws k.formed k.few in
     let spans = each_map (Each (SoundSpan (panel_of s))) (Each (Slight (lines_of names))) (λ r l. each_map (SoundSpan (panel_of s)) (Slight (lines_of names)) (slight s h names a g) r l)

@@ -1,4 +1,6 @@
 // Routes as BED: an assignment's words written as lines, and lines read back into words.
+#![tactic(auto)]
+
 ghost use Rattle.std.specs.Prelude.{◌≡◌, true, [], ◌∷◌, ◌++◌, ◌+◌, ◌*◌, ◌≤◌, length, drop, get_or, replicate};
 ghost use Rattle.image.specs.Inner.{Groups};
 ghost use Rattle.image.specs.Panel.{panel_of, paths_at};
@@ -20,7 +22,7 @@ ghost use Rattle.bed.specs.Theorems.{WriteHolds, ReadHolds};
 
 // What writing and reading answer: the refusal, and how many bytes or words of out they wrote.
 #[repr(C)]
-#[derive(Drop)]
+#[derive(Clone, Copy)]
 pub struct BedReply {
     pub refusal: u64,
     pub place: u64,

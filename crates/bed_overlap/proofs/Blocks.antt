@@ -3,22 +3,20 @@ use Prim.Native.Nat.{ℕ, zero, suc, ◌+◌, ◌-◌, ◌*◌, ◌≤◌, ◌<�
 use native.Mathlib.Omega.{arith}
 use mathlib.Core.Path.{◌≡◌, refl, sym, ap, ap₂, ◌∙◌, subst}
 use mathlib.Core.Bool.{Bool}
-use mathlib.Core.List.{List, [], ◌∷◌, ◌++◌, map}
-use lib.ListN.{length, take, drop, drop_of_length-le, take-append-drop}
+use mathlib.Core.List.{List, [], ◌∷◌, map}
+use lib.ListN.{length, take, drop, drop_of_length-le}
 use lib.Seq.{sets, length-sets, take-nil, drop-nil}
 use Rattle.evaluate.specs.declared.Segment.{Segment}
 use Rattle.evaluate.specs.Segments.{apart}
 use Rattle.evaluate.specs.Words.{segment_words}
-use Rattle.evaluate.proofs.Lists.{each_append, append_each}
 use Rattle.words.proofs.Writing.{sets_append}
-use Rattle.overlap.specs.Inner.{Filled}
 use Rattle.names.specs.Names.{lines_of}
 use Rattle.names.proofs.Cutting.{lines_nothing}
 use Rattle.rows.specs.Rows.{segment_of}
 use Rattle.texts.specs.declared.Line.{Line}
 use Rattle.texts.specs.Inner.{Lined, LineAt}
 use Rattle.bed_overlap.specs.declared.Block.{Block}
-use Rattle.bed_overlap.specs.Inner.{segments_from, block_at, Behind, BlockPut, standing, FirstApart, NextApart}
+use Rattle.bed_overlap.specs.Inner.{segments_from, block_at, BlockPut, standing, FirstApart, NextApart}
 use Rattle.bed_overlap.proofs.Standing.{standing_set, standing_kept, standing_put}
 
 -- ---- the segments of the lines
@@ -30,16 +28,6 @@ segments_nothing ns text n at e h = ap (λ (l : List ℕ). map (segment_of ns) (
 segments_here : {ns : List (List ℕ)} {text : List ℕ} {at : ℕ} {l : Line} → LineAt ns text at l → segments_from ns text at ≡ l.segment ∷ segments_from ns text l.next
 unfolding segments_from
 segments_here {ns} {text} {at} {l} d = ap (map (segment_of ns)) d.lines ∙ ap (λ (s : Segment). s ∷ map (segment_of ns) (lines_of (drop l.next text))) (sym d.segment)
-
--- ---- a block and what is behind it
-
-module _ {ns : List (List ℕ)} {text : List ℕ} {at next : ℕ} (b : Behind ns text at next) where
-  pub block_rest : segments_from ns text at ≡ block_at ns text at ++ segments_from ns text next
-  unfolding block_at
-  block_rest = sym (ap (λ (l : List Segment). take 1024 (segments_from ns text at) ++ l) b.rest ∙ take-append-drop 1024 (segments_from ns text at))
-
-  pub rest_filled : Filled (segments_from ns text at) → Filled (block_at ns text at) × Filled (segments_from ns text next)
-  rest_filled f = append_each (λ s. s.start < s.end) (block_at ns text at) (segments_from ns text next) (rw block_rest at f)
 
 -- ---- put one by one
 
@@ -145,16 +133,10 @@ module _ {ns : List (List ℕ)} {text : List ℕ} {at count : ℕ} {xs ys : List
   pub next_few : count + b.count ≤ 2048
   next_few = let f = p.few in omega arith
 
-  both_stand : standing (count + b.count) ys ≡ standing count xs ++ block_at ns text at
-  both_stand = ap₂ (λ (k : ℕ) (l : List ℕ). standing (count + k) l) p.counted p.words ∙ standing_put count xs (block_at ns text at) fits
-
-  pub next_filled : Filled (standing count xs) → Filled (segments_from ns text at) → Filled (standing (count + b.count) ys)
-  next_filled f g = rw both_stand (each_append (λ s. s.start < s.end) (standing count xs) (block_at ns text at) f (rest_filled p.behind g).0)
-
   pub next_told : {zs : List ℕ} (r : Bool) → FirstApart (count + b.count) ys zs r → NextApart ns text at count xs zs (record { apart = r; next = b.next })
   next_told r f =
       record {
-        told = f.told ∙ ap apart both_stand;
+        told = f.told ∙ ap apart (ap₂ (λ (k : ℕ) (l : List ℕ). standing (count + k) l) p.counted p.words ∙ standing_put count xs (block_at ns text at) fits);
         same = ap (standing count) f.words ∙ standing_set count ys (count + b.count) ∙ ap (standing count) p.words ∙ standing_kept count xs (block_at ns text at) fits;
         behind = p.behind;
       }

@@ -6,7 +6,7 @@ use mathlib.Core.Path.{◌≡◌, refl, sym, ap, ap₂, ◌∙◌}
 use mathlib.Core.Bool.{Bool, true, false, ◌&&◌, true≢false}
 use mathlib.Core.List.{List, [], ◌∷◌, ◌++◌, map}
 use lib.Dec.{ltb}
-use lib.ListN.{length, replicate, length-replicate}
+use lib.ListN.{length, take, replicate, take-append-drop, length-replicate}
 use lib.Seq.{sets, length-sets}
 use borrow.Author.Tests.{ltb-true, ltb-false}
 use Rattle.ground.specs.Lists.{all}
@@ -14,16 +14,15 @@ use Rattle.ground.proofs.ListLaws.{both}
 use Rattle.evaluate.specs.declared.Segment.{Segment}
 use Rattle.evaluate.specs.Segments.{clear, apart}
 use Rattle.evaluate.specs.Words.{bit, segment_words}
-use Rattle.spans.proofs.Laws.{clear_append}
-use Rattle.overlap.specs.Inner.{Filled}
+use Rattle.overlap.proofs.Laws.{clear_append}
 use Rattle.names.specs.Names.{lines_of}
 use Rattle.rows.specs.Rows.{segment_of}
 use Rattle.texts.specs.Inner.{Lined}
 use Rattle.bed_overlap.specs.declared.Block.{Block}
 use Rattle.bed_overlap.specs.declared.Held.{Held}
-use Rattle.bed_overlap.specs.Inner.{segments_from, block_at, BlockPut, standing, NextApart, BlockApart}
+use Rattle.bed_overlap.specs.Inner.{segments_from, block_at, Behind, BlockPut, standing, NextApart, BlockApart}
 use Rattle.bed_overlap.proofs.Standing.{standing_none, standing_put}
-use Rattle.bed_overlap.proofs.Blocks.{segments_nothing, block_rest, rest_filled}
+use Rattle.bed_overlap.proofs.Blocks.{segments_nothing}
 
 -- ---- two lists, one behind the other
 
@@ -71,11 +70,16 @@ both_apart l m e =
     let (c, d) = both (crossed l m) (apart m) b in
     record { first = a; cross = c; second = d }
 
+-- ---- a block and what is behind it
+
+block_rest : {ns : List (List ℕ)} {text : List ℕ} {at next : ℕ} → Behind ns text at next → segments_from ns text at ≡ block_at ns text at ++ segments_from ns text next
+unfolding block_at
+block_rest {ns} {text} {at} {next} b = sym (ap (λ (l : List Segment). take 1024 (segments_from ns text at) ++ l) b.rest ∙ take-append-drop 1024 (segments_from ns text at))
+
 -- ---- against each later one
 
 pub record Meeting (ns : List (List ℕ)) (text : List ℕ) (at count : ℕ) (xs ys : List ℕ) (from : ℕ) (more : Bool) : Type 0 where
   pub lined : Lined text from
-  pub filled : Filled (segments_from ns text from)
   pub stands : standing count ys ≡ standing count xs
   pub past : more ≡ false → length text ≤ from
   pub known : more ≡ false → apart (standing count xs) ≡ true
@@ -83,11 +87,10 @@ pub record Meeting (ns : List (List ℕ)) (text : List ℕ) (at count : ℕ) (xs
   pub todo : (apart (standing count xs) && (crossed (standing count xs) (segments_from ns text from) && apart (segments_from ns text at)))
       ≡ apart (standing count xs ++ segments_from ns text at)
 
-pub meeting_start : {ns : List (List ℕ)} {text : List ℕ} {at count : ℕ} {xs : List ℕ} → Lined text at → Filled (segments_from ns text at) → Meeting ns text at count xs xs at true
-meeting_start {ns} {text} {at} {count} {xs} l f =
+pub meeting_start : {ns : List (List ℕ)} {text : List ℕ} {at count : ℕ} {xs : List ℕ} → Lined text at → Meeting ns text at count xs xs at true
+meeting_start {ns} {text} {at} {count} {xs} l =
     record {
       lined = l;
-      filled = f;
       stands = refl;
       past = λ h. absurd (true≢false h);
       known = λ h. absurd (true≢false h);
@@ -98,12 +101,6 @@ meeting_start {ns} {text} {at} {count} {xs} l f =
 module _ {ns : List (List ℕ)} {text : List ℕ} {at count : ℕ} {xs ys : List ℕ} {from : ℕ} {more : Bool} (m : Meeting ns text at count xs ys from more) where
   pub meeting_lined : Lined text from
   meeting_lined = m.lined
-
-  pub meeting_filled : Filled (segments_from ns text from)
-  meeting_filled = m.filled
-
-  pub meeting_stands : Filled (standing count xs) → Filled (standing count ys)
-  meeting_stands f = rw m.stands f
 
   module _ {zs : List ℕ} (r : Held) (a : NextApart ns text from count ys zs r) where
     abbrev here : List Segment
@@ -136,7 +133,6 @@ module _ {ns : List (List ℕ)} {text : List ℕ} {at count : ℕ} {xs ys : List
         let on : crossed here (segments_from ns text from) ≡ crossed here (segments_from ns text r.next) = crossed_rest ∙ rw c.cross in
         record {
           lined = a.behind.lined;
-          filled = (rest_filled a.behind m.filled).1;
           stands = a.same ∙ m.stands;
           past = λ h. let q = ltb-false r.next n h in omega arith;
           known = λ h. c.first;
@@ -187,13 +183,6 @@ module _ {ns : List (List ℕ)} {text : List ℕ} {at : ℕ} {xs ys : List ℕ} 
       let s : standing (0 + length (block_at ns text at)) (sets xs 1 (segment_words (block_at ns text at))) ≡ standing 0 xs ++ block_at ns text at = standing_put 0 xs (block_at ns text at) h in
       ap₂ standing (sym z) p.words ∙ s ∙ ap (λ (l : List Segment). l ++ block_at ns text at) (standing_none xs)
 
-  module _ (f : Filled (segments_from ns text at)) where
-    pub block_filled : Filled (standing b.count ys)
-    block_filled = rw block_stands (rest_filled p.behind f).0
-
-    pub block_later : Filled (segments_from ns text b.next)
-    block_later = (rest_filled p.behind f).1
-
   whole : apart (standing b.count ys ++ segments_from ns text b.next) ≡ apart (segments_from ns text at)
   whole = ap apart (ap (λ (l : List Segment). l ++ segments_from ns text b.next) block_stands ∙ sym (block_rest p.behind))
 
@@ -204,7 +193,6 @@ module _ {ns : List (List ℕ)} {text : List ℕ} {at : ℕ} {xs ys : List ℕ} 
 
 pub record Going (ns : List (List ℕ)) (text : List ℕ) (at : ℕ) : Type 0 where
   pub lined : Lined text at
-  pub filled : Filled (segments_from ns text at)
   pub todo : apart (segments_from ns text 0) ≡ apart (segments_from ns text at)
 
 -- one pass has told it
@@ -215,22 +203,19 @@ all_spread ns text r h t = sym (h t)
 pub room_long : (xs : List ℕ) → xs ≡ replicate 8193 0 → length xs ≡ 8193
 room_long xs e = ap length e ∙ length-replicate {A = ℕ} 8193 0
 
-pub going_start : {ns : List (List ℕ)} {text : List ℕ} → Lined text 0 → Filled (segments_from ns text 0) → Going ns text 0
-going_start l f = record { lined = l; filled = f; todo = refl }
+pub going_start : {ns : List (List ℕ)} {text : List ℕ} → Lined text 0 → Going ns text 0
+going_start l = record { lined = l; todo = refl }
 
 module _ {ns : List (List ℕ)} {text : List ℕ} {at : ℕ} (g : Going ns text at) where
   pub going_lined : Lined text at
   going_lined = g.lined
-
-  pub going_filled : Filled (segments_from ns text at)
-  going_filled = g.filled
 
   module _ (r : Held) (b : BlockApart ns text at r) where
     pub going_less : (n : ℕ) → n ≡ length text → at < n → n - r.next < n - at
     going_less n e h = let g = b.behind.further (omega arith) in omega arith
 
     pub going_again : r.apart ≡ true → Going ns text r.next
-    going_again e = record { lined = b.behind.lined; filled = (rest_filled b.behind g.filled).1; todo = g.todo ∙ sym b.told ∙ rw e }
+    going_again e = record { lined = b.behind.lined; todo = g.todo ∙ sym b.told ∙ rw e }
 
     pub going_fails : r.apart ≡ false → false ≡ apart (segments_from ns text 0)
     going_fails e = sym (g.todo ∙ sym b.told ∙ rw e)

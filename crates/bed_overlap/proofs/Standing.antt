@@ -13,7 +13,6 @@ use Rattle.evaluate.specs.Segments.{Route, apart, flat}
 use Rattle.evaluate.specs.Words.{bit, segment_words}
 use Rattle.words.specs.Inner.{segment_of, segments_of, routes_of, UsedUp, Parsed}
 use Rattle.words.proofs.Writing.{segment_words_length}
-use Rattle.overlap.specs.Inner.{Filled}
 use Rattle.bed_overlap.specs.Inner.{standing, FirstApart}
 
 -- ---- segments read from words
@@ -112,15 +111,10 @@ module _ (ws : List ℕ) (n : ℕ) (e : n ≡ 1 + 4 * get_or ws 0 0) (h : n ≤ 
   pub route_short : n ≤ 65536 → length (take (n - 0) ws) ≤ 65536
   route_short k = rw (less, long) k
 
-  whole : flat (routes_of 1 (take (n - 0) ws)) ≡ segments_of (get_or ws 0 0) (drop 1 ws)
-  unfolding routes_of standing
-  whole = rw (less, append-nil (segments_of (get_or (take n ws) 0 0) (drop 1 (take n ws))), first, e) (standing_take (get_or ws 0 0) ws)
-
-  pub route_filled : Filled (segments_of (get_or ws 0 0) (drop 1 ws)) → Filled (flat (routes_of 1 (take (n - 0) ws)))
-  route_filled f = rw whole f
-
   pub route_told : (r : Bool) → r ≡ apart (flat (routes_of 1 (take (n - 0) ws))) → r ≡ apart (segments_of (get_or ws 0 0) (drop 1 ws))
-  route_told r t = t ∙ ap apart whole
+  unfolding routes_of standing
+  route_told r t =
+      t ∙ ap apart (rw (less, append-nil (segments_of (get_or (take n ws) 0 0) (drop 1 (take n ws))), first, e) (standing_take (get_or ws 0 0) ws))
 
 -- ---- a count put before the first ones
 
@@ -134,12 +128,6 @@ module _ (xs : List ℕ) (count : ℕ) (h : 1 + 4 * count ≤ length xs) where
   pub first_fits : 1 + 4 * count ≤ length (set xs 0 count)
   first_fits = rw (length-set xs 0 count) h
 
-  same : segments_of (get_or (set xs 0 count) 0 0) (drop 1 (set xs 0 count)) ≡ standing count xs
-  unfolding standing
-  same = ap (λ (n : ℕ). segments_of n (drop 1 (set xs 0 count))) head ∙ standing_set count xs count
-
-  pub first_filled : Filled (standing count xs) → Filled (segments_of (get_or (set xs 0 count) 0 0) (drop 1 (set xs 0 count)))
-  first_filled f = rw same f
-
   pub first_told : (r : Bool) → r ≡ apart (segments_of (get_or (set xs 0 count) 0 0) (drop 1 (set xs 0 count))) → FirstApart count xs (set xs 0 count) r
-  first_told r t = record { told = t ∙ ap apart same; words = refl }
+  unfolding standing
+  first_told r t = record { told = t ∙ ap apart (ap (λ (n : ℕ). segments_of n (drop 1 (set xs 0 count))) head ∙ standing_set count xs count); words = refl }

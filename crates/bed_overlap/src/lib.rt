@@ -1,8 +1,9 @@
 // Refusal 31 of a text's lines: whether two segments share a base. Their words are not all in one room: each block of them is held against each later one.
+#![tactic(auto)]
+
 ghost use Rattle.std.specs.Prelude.{◌≡◌, ◌&&◌, ◌++◌, ◌+◌, ◌*◌, ◌≤◌, length, drop, get_or, replicate};
 ghost use Rattle.evaluate.specs.Segments.{apart};
 ghost use Rattle.words.specs.Inner.{segments_of};
-ghost use Rattle.overlap.specs.Inner.{Filled};
 ghost use Rattle.names.specs.Names.{lines_of};
 ghost use Rattle.names.specs.Inner.{Table};
 ghost use Rattle.texts.specs.Inner.{Lined};
@@ -12,14 +13,14 @@ ghost use Rattle.bed_overlap.specs.Inner.{segments_from, standing, BlockPut, Fir
 const BLOCK: usize = 1024;
 
 // A block of lines whose segments have been put into a room: how many, and where the next line begins.
-#[derive(Drop)]
+#[derive(Clone, Copy)]
 struct Block {
     count: usize,
     next: usize,
 }
 
 // Whether a block is clear, and where the next one begins.
-#[derive(Drop)]
+#[derive(Clone, Copy)]
 struct Held {
     apart: bool,
     next: usize,
@@ -69,7 +70,7 @@ fn put_block(
 
 // Whether no two segments of the route at the start of these words share a base.
 fn is_route_apart(words: &[u64], n: usize) -> bool
-    requires { (n ≡ 1 + 4 * get_or words.now 0 0) × (n ≤ length words.now) × (n ≤ 65536) × Filled (segments_of (get_or words.now 0 0) (drop 1 words.now)) }
+    requires { (n ≡ 1 + 4 * get_or words.now 0 0) × (n ≤ length words.now) × (n ≤ 65536) }
     ensures { result ≡ apart (segments_of (get_or words.now 0 0) (drop 1 words.now)) }
 {
     overlap::are_apart(&words[0..n], 0, 1)
@@ -77,7 +78,7 @@ fn is_route_apart(words: &[u64], n: usize) -> bool
 
 // The same of the first ones in a room, whose count is put before them.
 fn are_first_apart(room: &mut [u64], count: usize) -> bool
-    requires { (1 + 4 * count ≤ length room.old) × (count ≤ 2048) × Filled (standing count room.old) }
+    requires { (1 + 4 * count ≤ length room.old) × (count ≤ 2048) }
     ensures { FirstApart count room.old room.new result }
 {
     let n = 1 + evaluate::Segment::WORDS * count;
@@ -98,7 +99,7 @@ fn is_next_apart(
     text: &[u8],
     at: usize,
 ) -> Held
-    requires { Table names.now starts.now ends.now heads.now links.now lanes × Lined text.now at × (8193 ≤ length room.old) × (count ≤ 1024) × Filled (standing count room.old) × Filled (segments_from (lines_of names.now) text.now at) }
+    requires { Table names.now starts.now ends.now heads.now links.now lanes × Lined text.now at × (8193 ≤ length room.old) × (count ≤ 1024) }
     ensures { NextApart (lines_of names.now) text.now at count room.old room.new result }
 {
     let to = 1 + evaluate::Segment::WORDS * count;
@@ -123,7 +124,7 @@ fn are_later_apart(
     text: &[u8],
     at: usize,
 ) -> bool
-    requires { Table names.now starts.now ends.now heads.now links.now lanes × Lined text.now at × (8193 ≤ length room.old) × (count ≤ 1024) × Filled (standing count room.old) × Filled (segments_from (lines_of names.now) text.now at) }
+    requires { Table names.now starts.now ends.now heads.now links.now lanes × Lined text.now at × (8193 ≤ length room.old) × (count ≤ 1024) }
     ensures { (result && apart (segments_from (lines_of names.now) text.now at)) ≡ apart (standing count room.old ++ segments_from (lines_of names.now) text.now at) }
 {
     let n = text.len();
@@ -155,7 +156,7 @@ fn is_block_apart(
     text: &[u8],
     at: usize,
 ) -> Held
-    requires { Table names.now starts.now ends.now heads.now links.now lanes × Lined text.now at × (8193 ≤ length room.old) × Filled (segments_from (lines_of names.now) text.now at) }
+    requires { Table names.now starts.now ends.now heads.now links.now lanes × Lined text.now at × (8193 ≤ length room.old) }
     ensures { BlockApart (lines_of names.now) text.now at result }
 {
     let b = put_block(room, 1, names, starts, ends, heads, links, lanes, text, at);
@@ -173,7 +174,7 @@ fn no_room() -> [u64; 8193]
     [0u64; 8193]
 }
 
-// Whether no two segments of a text's lines share a base, of spans that are not empty.
+// Whether no two segments of a text's lines share a base.
 pub fn are_apart(
     names: &[u8],
     starts: &[usize; 4098],
@@ -183,7 +184,7 @@ pub fn are_apart(
     lanes: usize,
     text: &[u8],
 ) -> bool
-    requires { Table names.now starts.now ends.now heads.now links.now lanes × Lined text.now 0 × Filled (segments_from (lines_of names.now) text.now 0) }
+    requires { Table names.now starts.now ends.now heads.now links.now lanes × Lined text.now 0 }
     ensures { result ≡ apart (segments_from (lines_of names.now) text.now 0) }
 {
     if bed_spread::is_spread(names, starts, ends, heads, links, lanes, text) {

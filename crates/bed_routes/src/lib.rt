@@ -1,4 +1,6 @@
 // Refusals 25 to 30 of the routes that a text of BED holds, line by line.
+#![tactic(auto)]
+
 ghost use Rattle.std.specs.Prelude.{◌≡◌, true, [], ◌∷◌, ◌<◌, length};
 ghost use Rattle.image.specs.Inner.{Framed, Started, Groups};
 ghost use Rattle.image.specs.Panel.{panel_of, paths_at};
@@ -11,7 +13,7 @@ ghost use Rattle.bed_routes.specs.Inner.{entered_by, joints_by, verdict, Begun, 
 
 // What has been seen of a route: the segment of its normal form at hand, joined so far, the one before it where there is some,
 // whether all segments as given were sound, whether the first entered its lane, and the first refusal of a joint.
-#[derive(Drop)]
+#[derive(Clone, Copy)]
 pub struct Seen {
     pub segment: evaluate::Segment,
     pub before: evaluate::Segment,
@@ -22,7 +24,7 @@ pub struct Seen {
 }
 
 // A route's refusal, and where the next route's first line stands.
-#[derive(Drop)]
+#[derive(Clone, Copy)]
 pub struct Passed {
     pub number: u64,
     pub next: usize,

@@ -1,1 +1,1 @@
-pub mod Spreading
+pub mod Spans

@@ -1,5 +1,7 @@
 // The lower bound (`lower_bound` of evaluate.rs), from counts and a background: each operation on doubles is followed by a step to the next double
 // outward. Refusal 43.
+#![tactic(auto)]
+
 ghost use Rattle.std.specs.Prelude.{◌≡◌, true, ◌^◌, ◌<◌};
 ghost use Rattle.std.specs.Float.Ieee.Positive.{positive};
 ghost use Rattle.bound.specs.Bound.{term, after, zero64, no_bound, counts_ok, bound_from, lower_bound};
@@ -7,7 +9,7 @@ ghost use Rattle.bound.specs.Bounded.{BoundHolds};
 
 // Refusal 43, or 0; given 1: a bound, 0: none. Fields that an answer does not use are 0.
 #[repr(C)]
-#[derive(Drop)]
+#[derive(Clone, Copy)]
 pub struct BoundReply {
     pub refusal: u64,
     pub place: u64,

@@ -1,4 +1,6 @@
 // The budgets held against their bounds, and the rooms against what a search needs of them: refusals 11 to 13.
+#![tactic(auto)]
+
 ghost use Rattle.std.specs.Prelude.{◌≡◌, ◌≤◌, max};
 ghost use Rattle.evaluate.specs.Refusals.{unless};
 ghost use Rattle.image.specs.Image.{families};

@@ -1,5 +1,7 @@
 // What is certified: the exported search, listing and check and the walk program's answer, each with the sentence that it owes, and nothing known of
 // it but its promise; and two runs of the search.
+#![tactic(auto)]
+
 ghost use Rattle.std.specs.Prelude.{take};
 ghost use Rattle.certificate.specs.Sentence.{Sentence};
 ghost use Rattle.certificate.specs.Calls.{Listing, Judged};
@@ -49,7 +51,7 @@ pub fn print(job: &[u8], out: &mut [u8; sheets::ROOM]) -> usize
 }
 
 // The replies of two runs.
-#[derive(Drop)]
+#[derive(Clone, Copy)]
 pub struct Replies {
     pub smaller: search::SearchReply,
     pub larger: search::SearchReply,

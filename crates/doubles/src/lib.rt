@@ -1,4 +1,6 @@
 // Doubles: by their bits, which are finite, and the next one up and down; laws of their order, their subtraction and their rounding.
+#![tactic(auto)]
+
 ghost use Rattle.std.specs.Prelude.{◌≡◌};
 ghost use Rattle.std.specs.Float.{binary64};
 ghost use Rattle.std.specs.Float.Ieee.{of_bits};

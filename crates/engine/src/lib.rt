@@ -1,5 +1,7 @@
 // The plain engine (02, item 10): the search without a stored stack. The step at a place calls the step through a hub, which calls the step
 // at the next place, with the depth left going down. Only the path is kept; what is still to be tried at a place is in its step's locals.
+#![tactic(auto)]
+
 ghost use Rattle.std.specs.Prelude.{◌≡◌, true, ◌+◌, ◌*◌, ◌≤◌, ◌<◌, length};
 ghost use Rattle.image.specs.Panel.{panel_of};
 ghost use Rattle.image.specs.Inner.{Started, Groups};
@@ -28,7 +30,7 @@ pub const PATH: usize = (DEPTH + 1) * Stored::WORDS;
 pub const SLOT: usize = 2 + DEPTH + Segment::WORDS * DEPTH;
 
 // Where a step stands: in which family, how many places lie below it on the path, and the depth left.
-#[derive(Drop)]
+#[derive(Clone, Copy)]
 pub struct Here {
     pub h: Header,
     pub family: Family,
@@ -37,7 +39,7 @@ pub struct Here {
 }
 
 // What is listed so far; whether places that lie too deep are looked for (else it is known that there are none); whether one was met.
-#[derive(Drop)]
+#[derive(Clone, Copy)]
 pub struct Told {
     pub listing: Listing,
     pub looks: bool,
@@ -345,7 +347,7 @@ fn sweep(image: &[u8], h: Header, first: Told, out: &mut [u64]) -> Told
 // ---- the call
 
 #[repr(C)]
-#[derive(Drop)]
+#[derive(Clone, Copy)]
 pub struct PlainReply {
     pub refusal: u64,
     pub place: u64,

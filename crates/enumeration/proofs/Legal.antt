@@ -42,11 +42,11 @@ module _ (p : Panel) (target : ℕ) where
   chain_enters (s ∷ []) h = record { lane = h.0.lane; forward = h.0.turn; at_start = h.0.cut }
   chain_enters (s ∷ t ∷ r) h = record { lane = h.0.lane; forward = h.0.turn; at_start = h.0.cut }
 
-  chain_of : (l c : ℕ) (b : Bool) (r : Route) → First (λ s. Begins s l c b) r → Each (SoundSpan p) r → Neighbours Unjoined r → Last (Leaves p target) r → Neighbours (Joint p) r → Chain p target l c b r
-  chain_of l c b [] f e n v j = f
-  chain_of l c b (s ∷ []) f e n v j = (f, e.0, v)
-  chain_of l c b (s ∷ t ∷ r) f e n v j =
-      (f, e.0, (j.0, n.0), chain_of t.source (entry t) t.reverse (t ∷ r) (record { lane = refl; cut = refl; turn = refl }) e.1 n.1 v j.1)
+  chain-of : (l c : ℕ) (b : Bool) (r : Route) → First (λ s. Begins s l c b) r → Each (SoundSpan p) r → Neighbours Unjoined r → Last (Leaves p target) r → Neighbours (Joint p) r → Chain p target l c b r
+  chain-of l c b [] f e n v j = f
+  chain-of l c b (s ∷ []) f e n v j = (f, e.0, v)
+  chain-of l c b (s ∷ t ∷ r) f e n v j =
+      (f, e.0, (j.0, n.0), chain-of t.source (entry t) t.reverse (t ∷ r) (record { lane = refl; cut = refl; turn = refl }) e.1 n.1 v j.1)
 
   first_of : (r : Route) → First (Enters target) r → First (λ s. Begins s target 0 false) r
   first_of [] h = h
@@ -62,7 +62,7 @@ module _ (p : Panel) (target : ℕ) where
           leaves = chain_leaves target 0 false r h;
           joints = chain_joints target 0 false r h;
         },
-    λ h. chain_of target 0 false r (first_of r h.enters) h.spans h.normal h.leaves h.joints,
+    λ h. chain-of target 0 false r (first_of r h.enters) h.spans h.normal h.leaves h.joints,
   )
 
 -- ---- clear of what stands before is apart

@@ -127,7 +127,7 @@ module _ {N X : Type 0} (tasks : N → List (Task N X)) where
   now g ts x (down b) y = Memᴰ.append_left (through g ts) y
   now g ts x (give z) y = Memᴰ.head y
 
-  pub through_complete : (g : N → List X) {ts : List (Task N X)} (x : X) (t : Task N X) → Memᴰ t ts → YieldsIn g x t → Memᴰ x (through g ts)
+  pub through_complete : (g : N → List X) (x : X) (t : Task N X) {ts : List (Task N X)} → Memᴰ t ts → YieldsIn g x t → Memᴰ x (through g ts)
   through_complete g x t (Memᴰ.head {x = u} {xs = us} e) y = now g us x u (subst (YieldsIn g x) e y)
   through_complete g x t (Memᴰ.tail {x = u} {xs = us} m) y = later g us x u (through_complete g x t m y)
 

@@ -1,9 +1,11 @@
 // Segments, routes and assignments (evaluate.rs).
+#![tactic(auto)]
+
 ghost use Rattle.std.specs.Prelude.{◌≡◌};
 ghost use Rattle.evaluate.specs.Segments.{entry, exit};
 
 // A piece of a lane: its bases from start up to end, read forward or reverse.
-#[derive(Drop)]
+#[derive(Clone, Copy)]
 pub struct Segment {
     pub source: u64,
     pub start: u64,
@@ -31,7 +33,7 @@ impl Segment {
 }
 
 // A refusal: its number, 0 where nothing is refused, and its place.
-#[derive(Drop)]
+#[derive(Clone, Copy)]
 pub struct Refusal {
     pub number: u64,
     pub place: u64,
@@ -39,7 +41,7 @@ pub struct Refusal {
 
 // What the assignment check answers: the refusal, and how many words of out it wrote.
 #[repr(C)]
-#[derive(Drop)]
+#[derive(Clone, Copy)]
 pub struct AssignmentReply {
     pub refusal: u64,
     pub place: u64,

@@ -1,4 +1,6 @@
 // The panel check: refusal 5.
+#![tactic(auto)]
+
 ghost use Rattle.std.specs.Prelude.{◌≡◌, ◌+◌, ◌≤◌, ◌<◌, eqb, drop, get_or};
 ghost use Rattle.ground.specs.Lists.{sum, all, any};
 ghost use Rattle.image.specs.Image.{path_counts, paths, families, paths_of};

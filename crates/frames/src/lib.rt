@@ -1,11 +1,13 @@
 // The walk's stack: frames of ten words in a lent room.
+#![tactic(auto)]
+
 ghost use Rattle.std.specs.Prelude.{◌≡◌, ◌++◌, ◌+◌, ◌-◌, ◌*◌, ◌≤◌, ◌<◌, length, take, drop, get_or, replicate};
 ghost use Rattle.evaluate.specs.Segments.{clear};
 ghost use Rattle.search.specs.Rooms.{frame_width};
 ghost use Rattle.frames.specs.Inner.{put, stored_at, piece_at, pieces, no_segment, apart_from};
 
 // A frame as it is stored (01, "Room left behind"): its words in their order.
-#[derive(Drop)]
+#[derive(Clone, Copy)]
 pub struct Stored {
     pub slot: u64,
     pub source: u64,

@@ -18,7 +18,7 @@ use Rattle.image.proofs.Laws.{framed_of}
 use Rattle.families.specs.Families.{sound5a, sound5b, sound5}
 use Rattle.families.proofs.Laws.{grouped_told}
 use Rattle.panel.specs.Refusals.{length_ok, sound4, sound6, sound7, sound8, sound_records, own_rows, lanes_rising, hub_rising}
-use Rattle.panel.specs.Inner.{Accepted}
+use Rattle.panel.specs.Inner.{Ordered, Accepted}
 use Rattle.graph.specs.Check.{later, ports_checked, after_open, checked}
 
 -- a test that passed is true of the chain's rest; one that failed gives its number
@@ -65,30 +65,35 @@ module _ (s : List ℕ) (h : Header) (a : Bool) (ea : a ≡ sound4 h s) where
       unfolding later
       ports_told r t e = e ∙ rw (← ea, ta, ← eb, t)
 
-module _ (s : List ℕ) (h : Header) (a : Bool) (ea : a ≡ (sound6 h s && sound7 h s && sound8 h s)) where
-  pub good_told : a ≡ true → Good h ≡ ports_checked h s
+module _ (s : List ℕ) (h : Header) (c : Bool) (ec : c ≡ sound6 h s) where
+  pub refused_6 : c ≡ false → Refused 6 ≡ ports_checked h s
   unfolding ports_checked
-  good_told t =
-      let (m, e8) = both (sound6 h s && sound7 h s) (sound8 h s) (sym ea ∙ t) in
-      let (e6, e7) = both (sound6 h s) (sound7 h s) m in
-      rw (e6, e7, e8)
+  refused_6 t = rw (← ec, t)
 
-  module _ (t : a ≡ false) (c : Bool) (ec : c ≡ sound6 h s) where
-    pub refused_6 : c ≡ false → Refused 6 ≡ ports_checked h s
+  module _ (tc : c ≡ true) (d : Bool) (ed : d ≡ sound7 h s) where
+    pub refused_7 : d ≡ false → Refused 7 ≡ ports_checked h s
     unfolding ports_checked
-    refused_6 u = rw (← ec, u)
+    refused_7 t = rw (← ec, tc, ← ed, t)
 
-    module _ (tc : c ≡ true) (d : Bool) (ed : d ≡ sound7 h s) where
-      pub refused_7 : d ≡ false → Refused 7 ≡ ports_checked h s
-      unfolding ports_checked
-      refused_7 u = rw (← ec, tc, ← ed, u)
+    module _ (td : d ≡ true) where
+      pub ordered_told : Counted s h → Ordered s h
+      unfolding sound6 sound7
+      ordered_told counted =
+          let m = (both (sound_records h s h.lane_ports_at && sound_records h s h.hub_at) (own_rows h s) (sym ec ∙ tc)).0 in
+          record {
+            counted = counted;
+            rows = (both (lanes_rising h s) (hub_rising h s) (sym ed ∙ td)).0;
+            named = (both (sound_records h s h.lane_ports_at) (sound_records h s h.hub_at) m).1;
+          }
 
-      -- not all three, and the first two: the third fails
-      pub refused_8 : d ≡ true → Refused 8 ≡ ports_checked h s
-      unfolding ports_checked
-      refused_8 u =
-          let fails : sound8 h s ≡ false = sym (ea ∙ rw (← ec, tc, ← ed, u)) ∙ t in
-          rw (← ec, tc, ← ed, u, fails)
+      module _ (e : Bool) (ee : e ≡ sound8 h s) where
+        pub refused_8 : e ≡ false → Refused 8 ≡ ports_checked h s
+        unfolding ports_checked
+        refused_8 t = rw (← ec, tc, ← ed, td, ← ee, t)
+
+        pub good_told : e ≡ true → Good h ≡ ports_checked h s
+        unfolding ports_checked
+        good_told t = rw (← ec, tc, ← ed, td, ← ee, t)
 
 module _ (s : List ℕ) (r : Opened) (e : r ≡ opened s) where
   pub check_good : (h : Header) (q : Opened) → r ≡ Good h → q ≡ later h s → q ≡ checked s

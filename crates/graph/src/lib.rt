@@ -1,4 +1,6 @@
 // The panel check whole, the port at a cut and the hub bucket.
+#![tactic(auto)]
+
 ghost use Rattle.std.specs.Prelude.{◌≡◌, length};
 ghost use Rattle.storage.specs.Records.{padded};
 ghost use Rattle.storage.specs.Orders.{bucket_of};
@@ -18,7 +20,6 @@ fn check_ports(image: &[u8], h: image::Header) -> image::Opened
     check_records(image, h, &starts)
 }
 
-// The fast test first; only where it fails the number is looked for.
 fn check_records(
     image: &[u8],
     h: image::Header,
@@ -27,12 +28,13 @@ fn check_records(
     requires { Started image.now h starts.now }
     ensures { result ≡ ports_checked h image.now }
 {
-    if copies::is_fine(image, h, starts) {
-        return image::Opened::Good(h);
-    }
     if panel::are_sound(image, h, starts) {
         if panel::are_rising(image, h, starts) {
-            image::Opened::Refused(8)
+            if panel::are_listed(image, h, starts) {
+                image::Opened::Good(h)
+            } else {
+                image::Opened::Refused(8)
+            }
         } else {
             image::Opened::Refused(7)
         }
@@ -68,7 +70,7 @@ pub fn check_panel(image: &[u8]) -> image::Opened
 
 // ---- the port at a cut
 
-#[derive(Drop)]
+#[derive(Clone, Copy)]
 pub enum Found {
     Unsound(u64),
     NoLane,
@@ -77,7 +79,7 @@ pub enum Found {
 }
 
 // The port stands beside the answer; it is no port unless the answer is Here.
-#[derive(Drop)]
+#[derive(Clone, Copy)]
 pub struct PortAnswer {
     pub found: Found,
     pub port: storage::Port,
@@ -156,7 +158,7 @@ pub fn port_at_cut(image: &[u8], lane: u64, cut: u64, reverse: bool) -> PortAnsw
 
 // ---- the hub bucket
 
-#[derive(Drop)]
+#[derive(Clone, Copy)]
 pub enum BucketAnswer {
     BadPanel(u64),
     BadWord,

@@ -1,4 +1,6 @@
 // Tests that are joined into larger ones.
+#![tactic(auto)]
+
 ghost use Rattle.std.specs.Prelude.{◌≡◌, ◌&&◌, leb, eqb};
 ghost use Rattle.ground.specs.Lists.{within};
 

@@ -1,4 +1,6 @@
 // The header of a panel image, and its lists read at byte offsets.
+#![tactic(auto)]
+
 ghost use Rattle.std.specs.Prelude.{◌≡◌, ◌+◌, ◌*◌, ◌≤◌, ◌<◌, length, drop, take, get_or, replicate};
 ghost use Rattle.ground.specs.Lists.{sum, each};
 ghost use Rattle.storage.specs.Orders.{record_lt, same_port, place_lt, place_before};
@@ -8,7 +10,7 @@ ghost use Rattle.image.specs.Image.{entry_of, entries, counts, ports_of, hub, no
 ghost use Rattle.image.specs.Inner.{Framed, Counted, Started, Stands, Grouped, Groups};
 ghost use Rattle.storage.specs.Records.{port_of, no_port, record_size};
 
-#[derive(Drop)]
+#[derive(Clone, Copy)]
 pub struct Header {
     pub k: usize,
     pub lanes: usize,
@@ -43,7 +45,7 @@ impl Header {
     pub const LENGTH: usize = 4294967295;
 }
 
-#[derive(Drop)]
+#[derive(Clone, Copy)]
 pub enum Opened {
     Good(Header),
     Refused(u64),
@@ -143,7 +145,7 @@ pub fn open(image: &[u8]) -> Opened
     }
 }
 
-#[derive(Drop)]
+#[derive(Clone, Copy)]
 pub struct Entry {
     pub len: u64,
     pub count: usize,
@@ -151,7 +153,7 @@ pub struct Entry {
 }
 
 // A lane, and where its list stands among the lane ports.
-#[derive(Drop)]
+#[derive(Clone, Copy)]
 pub struct Lane {
     pub number: usize,
     pub len: u64,
@@ -327,7 +329,7 @@ pub fn lane_source(image: &[u8], h: Header, l: Lane, i: usize) -> u64
 }
 
 // A family, and where its paths stand among the path entries.
-#[derive(Drop)]
+#[derive(Clone, Copy)]
 pub struct Family {
     pub number: usize,
     pub start: usize,

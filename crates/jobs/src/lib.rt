@@ -1,4 +1,6 @@
 // The walk program's job (01, "The program"): whether it is as stated, its budget and its scores.
+#![tactic(auto)]
+
 ghost use Rattle.std.specs.Prelude.{◌≡◌, ◌||◌, ◌+◌, ◌*◌, ◌≤◌, eqb, length, drop};
 ghost use Rattle.search.specs.Job.{job_ok, default_budget, budget_from, budget_in};
 ghost use Rattle.jobs.specs.Inner.{Sound, Scored};

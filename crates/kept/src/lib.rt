@@ -1,9 +1,11 @@
 // What is kept of the evaluations, in two lent rooms: the incumbent, the tied list, a spare slot; and whether one was discarded.
+#![tactic(auto)]
+
 ghost use Rattle.std.specs.Prelude.{◌≡◌, true, ◌+◌, ◌*◌, ◌≤◌, ◌<◌, length};
 ghost use Rattle.kept.specs.Inner.{Tidy, Replaced, Lowered, Adding, Added, Recorded, Begun};
 
 // What the rooms hold: an incumbent or none, so many tied, and whether one was discarded.
-#[derive(Drop)]
+#[derive(Clone, Copy)]
 pub struct Holding {
     pub has: bool,
     pub count: usize,

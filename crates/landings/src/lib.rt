@@ -1,4 +1,6 @@
 // What a unit of the walk reads of port records, each in its own place: where a port lands, the first port past a cut, a port's bucket.
+#![tactic(auto)]
+
 ghost use Rattle.std.specs.Prelude.{◌≡◌, ◌+◌, ◌≤◌, ◌<◌, length, drop, get_or, replicate};
 ghost use Rattle.ground.specs.Lists.{count};
 ghost use Rattle.storage.specs.Records.{port_of, record_size, same_turn, no_port};
@@ -10,7 +12,7 @@ ghost use Rattle.panel.specs.Inner.{Accepted};
 ghost use Rattle.landings.specs.Inner.{landing_of, same_landing, reached, Here, memo_words, Known};
 
 // Where a port lands: its lane, cut and orientation.
-#[derive(Drop)]
+#[derive(Clone, Copy)]
 pub struct Landing {
     pub source: u64,
     pub cut: u64,

@@ -1,4 +1,6 @@
 // The lanes' letters (02, "The DNA behind the ports"): refusals 39 and 40.
+#![tactic(auto)]
+
 ghost use Rattle.std.specs.Prelude.{◌≡◌, ◌+◌, ◌≤◌, ◌<◌, eqb, length, get_or, replicate};
 ghost use Rattle.ground.specs.Lists.{pick, sum, all};
 ghost use Rattle.storage.specs.Bytes.{part};

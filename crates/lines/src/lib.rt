@@ -1,4 +1,6 @@
 // The lines of the walk program's sheet (01, "The program"): the status, the counters, the incumbent read from its words.
+#![tactic(auto)]
+
 ghost use Rattle.std.specs.Prelude.{◌≡◌, [], ◌∷◌, ◌++◌, ◌+◌, ◌-◌, ◌*◌, ◌≤◌, eqb, length, drop};
 ghost use Rattle.ground.specs.Lists.{pick};
 ghost use Rattle.image.specs.Image.{paths_of};

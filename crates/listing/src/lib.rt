@@ -1,4 +1,6 @@
 // The listing: the walk without scores; an assignment's words go to out, if their turn has come and they fit.
+#![tactic(auto)]
+
 ghost use Rattle.std.specs.Prelude.{◌≡◌, false, ◌++◌, ◌+◌, ◌*◌, ◌-◌, ◌≤◌, ◌<◌, length, take, drop};
 ghost use Rattle.image.specs.Inner.{Groups, Started};
 ghost use Rattle.image.specs.Panel.{panel_of};
@@ -18,7 +20,7 @@ use search::{ListReply, SearchBudget, Stop, Tally};
 use walks::{Halt, Standing};
 
 // How many evaluations are still to be skipped, whether one did not fit, how many were written, and their words.
-#[derive(Drop)]
+#[derive(Clone, Copy)]
 pub struct Listing {
     pub skip: u64,
     pub full: bool,
@@ -27,7 +29,7 @@ pub struct Listing {
 }
 
 // How a listing ended: which budget stopped it, and where its walk then stands.
-#[derive(Drop)]
+#[derive(Clone, Copy)]
 pub struct Listed {
     pub stop: Stop,
     pub at: Standing,
@@ -35,7 +37,7 @@ pub struct Listed {
 }
 
 // Where seeding ended.
-#[derive(Drop)]
+#[derive(Clone, Copy)]
 pub struct Seeded {
     pub natives: usize,
     pub listing: Listing,

@@ -1,4 +1,6 @@
 // What the counters ask of one assignment, read from its words: its switches, and whether a route is over two lanes or two identities.
+#![tactic(auto)]
+
 ghost use Rattle.std.specs.Prelude.{◌≡◌, ◌+◌, ◌*◌, ◌-◌, ◌≤◌, length, drop};
 ghost use Rattle.ground.specs.Lists.{all, any};
 ghost use Rattle.image.specs.Inner.{Framed};
@@ -8,7 +10,7 @@ ghost use Rattle.words.specs.Inner.{segments_of, routes_of, assignment_of, Parse
 ghost use Rattle.search.specs.Counters.{varies};
 ghost use Rattle.marks.specs.Inner.{lane_of, identity_of, on_value, marks_of};
 
-#[derive(Drop)]
+#[derive(Clone, Copy)]
 pub struct Marks {
     pub switches: u64,
     pub lanes: bool,

@@ -1,5 +1,7 @@
 // The name table: texts cut at a byte, names, and the lane of a name. Names are chained by a hash of their bytes, so that one walk of a
 // chain tells whether a name stands twice, and which lane has it.
+#![tactic(auto)]
+
 ghost use Rattle.std.specs.Prelude.{◌≡◌, [], ◌+◌, ◌≤◌, ◌<◌, length, take, get_or};
 ghost use Rattle.ground.specs.Lists.{all};
 ghost use Rattle.names.specs.Names.{same, cut, printing, name_ok};

@@ -3,11 +3,11 @@ use Prim.Native.Nat.{ℕ, zero, suc, ◌<◌}
 use native.Mathlib.Omega.{arith}
 use mathlib.Core.Path.{◌≡◌, refl, sym, ap, ap₂, ◌∙◌}
 use mathlib.Core.Logic.{◌⊎◌, inl, inr, ⊎_elim}
-use mathlib.Core.Bool.{Bool, true, false, not, ◌&&◌, and_false, true≢false}
+use mathlib.Core.Bool.{Bool, true, false, not, ◌&&◌, and-false, true≢false}
 use mathlib.Core.List.{List, [], ◌∷◌, ◌++◌, map}
 use lib.Dec.{ltb, eqb}
 use lib.ListN.{length}
-use borrow.Author.Tests.{le-ltb}
+use borrow.Author.Tests.{le-ltb, eq-eqb, ne_eqb, eqb-true, eqb-false}
 use Rattle.ground.specs.Lists.{pick, all}
 use Rattle.ground.proofs.ListLaws.{both}
 use Rattle.image.specs.Panel.{Panel}
@@ -19,9 +19,27 @@ use Rattle.evaluate.specs.Segments.{Route, joinable, joined, joining, normalize,
 use Rattle.evaluate.specs.Check.{is_empty, normal_refusal, route_refusal, routes_refusal}
 use Rattle.evaluate.proofs.Bases.{overlap_share, share_overlap, sound_iff}
 use Rattle.evaluate.proofs.NormalForm.{Filled, Joins, joins, end_to_end, joined_some, joined_holds}
-use Rattle.spans.proofs.Laws.{and_assoc, clear_append, overlap_sym}
+use Rattle.overlap.proofs.Laws.{and_assoc, clear_append}
 
 -- ---- a joined segment meets what one of its two pieces meets
+
+pub overlap_sym : (s t : Segment) → overlap s t ≡ overlap t s
+overlap_sym s t = go (eqb s.source t.source) refl
+  where
+    turn : (c x y : Bool) → ((c && x) && y) ≡ ((c && y) && x)
+    turn false x y = refl
+    turn true true true = refl
+    turn true true false = refl
+    turn true false true = refl
+    turn true false false = refl
+
+    go : (c : Bool) → eqb s.source t.source ≡ c → overlap s t ≡ overlap t s
+    go true e =
+        let f : eqb t.source s.source ≡ true = eq-eqb t.source s.source (sym (eqb-true s.source t.source e)) in
+        rw (e, f) (turn true (ltb s.start t.end) (ltb t.start s.end))
+    go false e =
+        let f : eqb t.source s.source ≡ false = ne_eqb t.source s.source (λ q. eqb-false s.source t.source e (sym q)) in
+        rw (e, f)
 
 module _ (s t : Segment) (hs : s.start < s.end) (ht : t.start < t.end) (j : Joins s t) where
   pieces_off : overlap s t ≡ false
@@ -30,12 +48,12 @@ module _ (s t : Segment) (hs : s.start < s.end) (ht : t.start < t.end) (j : Join
       ahead : s.end ≡ t.start → overlap s t ≡ false
       ahead e =
           let z : ltb t.start s.end ≡ false = le-ltb t.start s.end (omega arith) in
-          rw z (and_false (eqb s.source t.source && ltb s.start t.end))
+          rw z (and-false (eqb s.source t.source && ltb s.start t.end))
 
       behind : t.end ≡ s.start → overlap s t ≡ false
       behind e =
           let z : ltb s.start t.end ≡ false = le-ltb s.start t.end (omega arith) in
-          rw (z, and_false (eqb s.source t.source))
+          rw (z, and-false (eqb s.source t.source))
 
   module _ (u : Segment) (hu : u.start < u.end) where
     to_piece : overlap (joined s t) u ≡ true → (overlap s u ≡ true) ⊎ (overlap t u ≡ true)
@@ -130,10 +148,6 @@ apart_normal m k (s ∷ r) f = apart_joining m k s r f
 
 abbrev pub AllFilled : List Route → Type 0
 AllFilled rs = Each Filled rs
-
-pub flat_filled : (rs : List Route) → AllFilled rs → Filled (flat rs)
-flat_filled [] h = tt
-flat_filled (r ∷ rs) h = filled_append r (flat rs) h.0 (flat_filled rs h.1)
 
 clear_flat : (u : Segment) → u.start < u.end → (rs : List Route) → AllFilled rs → clear u (flat (map normalize rs)) ≡ clear u (flat rs)
 clear_flat u hu [] h = refl

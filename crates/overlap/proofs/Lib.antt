@@ -1,5 +1,3 @@
+pub mod Laws
 pub mod Given
-pub mod Counts
-pub mod Spreading
-pub mod Neighbours
-pub mod Whole
+pub mod ChainLaws

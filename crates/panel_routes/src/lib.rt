@@ -1,4 +1,6 @@
-// The calls that users link: thin functions over the libraries, in C's layout (include/panel_routes.h).
+// The calls that users link: thin functions over the libraries, with replies in C's layout. panel_routes_c exports them.
+#![tactic(auto)]
+
 ghost use Rattle.std.specs.Prelude.{◌≡◌, length};
 ghost use Rattle.graph.specs.Check.{checked};
 ghost use Rattle.graph.specs.Lookups.{port_answer, bucket_answer};
@@ -16,7 +18,7 @@ ghost use Rattle.panel_routes.specs.Replies.{panel_reply, port_reply, bucket_rep
 
 // Refusal 0: none. Fields that an answer does not use are 0.
 #[repr(C)]
-#[derive(Drop)]
+#[derive(Clone, Copy)]
 pub struct PanelReply {
     pub refusal: u64,
     pub place: u64,
@@ -24,7 +26,7 @@ pub struct PanelReply {
 
 // Found 0: no port, 1: a port; the word zero-padded.
 #[repr(C)]
-#[derive(Drop)]
+#[derive(Clone, Copy)]
 pub struct PortReply {
     pub refusal: u64,
     pub place: u64,
@@ -34,7 +36,7 @@ pub struct PortReply {
 }
 
 #[repr(C)]
-#[derive(Drop)]
+#[derive(Clone, Copy)]
 pub struct BucketReply {
     pub refusal: u64,
     pub place: u64,
@@ -42,8 +44,7 @@ pub struct BucketReply {
     pub hi: u64,
 }
 
-#[unsafe(no_mangle)]
-pub extern "C" fn panel_routes_check_panel(image: &[u8]) -> PanelReply
+pub fn panel_routes_check_panel(image: &[u8]) -> PanelReply
     ensures { result ≡ panel_reply (checked image.now) }
 {
     match graph::check_panel(image) {
@@ -95,8 +96,7 @@ fn port_reply(found: graph::Found, port: storage::Port) -> PortReply
     }
 }
 
-#[unsafe(no_mangle)]
-pub extern "C" fn panel_routes_port_at_cut(
+pub fn panel_routes_port_at_cut(
     image: &[u8],
     lane: u64,
     cut: u64,
@@ -110,8 +110,7 @@ pub extern "C" fn panel_routes_port_at_cut(
     port_reply(found, port)
 }
 
-#[unsafe(no_mangle)]
-pub extern "C" fn panel_routes_hub_bucket(image: &[u8], word: &[u8]) -> BucketReply
+pub fn panel_routes_hub_bucket(image: &[u8], word: &[u8]) -> BucketReply
     ensures { result ≡ bucket_reply (bucket_answer image.now word.now) }
 {
     match graph::hub_bucket(image, word) {
@@ -137,8 +136,7 @@ pub extern "C" fn panel_routes_hub_bucket(image: &[u8], word: &[u8]) -> BucketRe
 }
 
 // On acceptance out begins with the normal form, whose length is told; on a refusal it stays.
-#[unsafe(no_mangle)]
-pub extern "C" fn panel_routes_check_assignment(
+pub fn panel_routes_check_assignment(
     image: &[u8],
     words: &[u64],
     out: &mut [u64],
@@ -149,8 +147,7 @@ pub extern "C" fn panel_routes_check_assignment(
     assignment::check_assignment(image, words, out)
 }
 
-#[unsafe(no_mangle)]
-pub extern "C" fn panel_routes_list(
+pub fn panel_routes_list(
     image: &[u8],
     budget: search::SearchBudget,
     from: u64,
@@ -164,8 +161,7 @@ pub extern "C" fn panel_routes_list(
     listing::list(image, budget, from, frames, slot, out)
 }
 
-#[unsafe(no_mangle)]
-pub extern "C" fn panel_routes_search(
+pub fn panel_routes_search(
     image: &[u8],
     budget: search::SearchBudget,
     scores: &[f64],
@@ -180,8 +176,7 @@ pub extern "C" fn panel_routes_search(
 }
 
 // Of counts and a background, with no panel: the bound, and what it is a bound of.
-#[unsafe(no_mangle)]
-pub extern "C" fn panel_routes_lower_bound(counts: &[u64], background: f64) -> bound::BoundReply
+pub fn panel_routes_lower_bound(counts: &[u64], background: f64) -> bound::BoundReply
     ensures value { result ≡ lower_bound counts.now background }
     ensures bound_holds { BoundHolds counts.now background result }
 {
@@ -189,8 +184,7 @@ pub extern "C" fn panel_routes_lower_bound(counts: &[u64], background: f64) -> b
 }
 
 // The plain engine: all legal assignments, without budgets, from number from + 1 on, until one doesn't fit into out.
-#[unsafe(no_mangle)]
-pub extern "C" fn panel_routes_plain_list(
+pub fn panel_routes_plain_list(
     image: &[u8],
     from: u64,
     out: &mut [u64],
@@ -203,8 +197,7 @@ pub extern "C" fn panel_routes_plain_list(
 }
 
 // Whether the letters are the lanes', lane after lane, and every port's word is what they read.
-#[unsafe(no_mangle)]
-pub extern "C" fn panel_routes_check_letters(image: &[u8], letters: &[u8]) -> PanelReply
+pub fn panel_routes_check_letters(image: &[u8], letters: &[u8]) -> PanelReply
     ensures { result ≡ letters_reply (letters_answer image.now letters.now) }
 {
     let r = letters::check_letters(image, letters);
@@ -215,8 +208,7 @@ pub extern "C" fn panel_routes_check_letters(image: &[u8], letters: &[u8]) -> Pa
 }
 
 // The letters of the route of a slot, from number from up to number to, counted from 0; on a refusal out stays.
-#[unsafe(no_mangle)]
-pub extern "C" fn panel_routes_spell(
+pub fn panel_routes_spell(
     image: &[u8],
     letters: &[u8],
     words: &[u64],
@@ -233,8 +225,7 @@ pub extern "C" fn panel_routes_spell(
 }
 
 // An assignment's words as BED, a line a segment as given, by a table with a line for each lane's name; on a refusal out stays.
-#[unsafe(no_mangle)]
-pub extern "C" fn panel_routes_write_bed(
+pub fn panel_routes_write_bed(
     image: &[u8],
     names: &[u8],
     words: &[u64],
@@ -248,8 +239,7 @@ pub extern "C" fn panel_routes_write_bed(
 }
 
 // Lines of BED read back into the words that they hold, the family given beside them; on a refusal out stays.
-#[unsafe(no_mangle)]
-pub extern "C" fn panel_routes_read_bed(
+pub fn panel_routes_read_bed(
     image: &[u8],
     names: &[u8],
     family: u64,

@@ -1,4 +1,6 @@
 // Refusals 25 to 30, route by route.
+#![tactic(auto)]
+
 ghost use Rattle.std.specs.Prelude.{◌≡◌, not, ◌&&◌, ◌+◌, ◌*◌, ◌≤◌, ◌<◌, eqb, length, drop};
 ghost use Rattle.ground.specs.Lists.{all};
 ghost use Rattle.storage.specs.Orders.{same_word};

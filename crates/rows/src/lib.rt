@@ -1,4 +1,6 @@
 // A line of BED: its columns, numbers in decimal, slot and strand read; the line written.
+#![tactic(auto)]
+
 ghost use Rattle.std.specs.Prelude.{◌≡◌, false, [], ◌∷◌, ◌++◌, ◌<◌, length};
 ghost use Rattle.search.specs.Sheet.{decimal, turn_text};
 ghost use Rattle.text.specs.Inner.{Put};
@@ -8,21 +10,21 @@ ghost use Rattle.rows.specs.Rows.{no_leading_zero, score_text, column, row_text}
 ghost use Rattle.rows.specs.Inner.{DigitsRead, NumberRead, SlotRead, TurnRead, RowRead};
 
 // A number read, if it is one.
-#[derive(Drop)]
+#[derive(Clone, Copy)]
 pub struct Number {
     pub good: bool,
     pub value: u64,
 }
 
 // An orientation read, if it is one.
-#[derive(Drop)]
+#[derive(Clone, Copy)]
 pub struct Turn {
     pub good: bool,
     pub reverse: bool,
 }
 
 // A line read, if it has the form: where its name stands, and what else it holds.
-#[derive(Drop)]
+#[derive(Clone, Copy)]
 pub struct Row {
     pub good: bool,
     pub from: usize,

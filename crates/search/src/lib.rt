@@ -1,8 +1,10 @@
 // The budgeted walk over donor switches (search.rs): what it is given, and what it answers.
 
 // The budgets: four whole numbers and the tie width.
+#![tactic(auto)]
+
 #[repr(C)]
-#[derive(Drop)]
+#[derive(Clone, Copy)]
 pub struct SearchBudget {
     pub max_work: u64,
     pub max_evaluations: u64,
@@ -12,7 +14,7 @@ pub struct SearchBudget {
 }
 
 // Which budget stopped the walk, or none did.
-#[derive(Drop)]
+#[derive(Clone, Copy)]
 pub enum Stop {
     Exhausted,
     Work,
@@ -21,7 +23,7 @@ pub enum Stop {
 }
 
 // The five statuses.
-#[derive(Drop)]
+#[derive(Clone, Copy)]
 pub enum Status {
     Certified,
     SupportIncomplete,
@@ -31,7 +33,7 @@ pub enum Status {
 }
 
 // The nine counters.
-#[derive(Drop)]
+#[derive(Clone, Copy)]
 pub struct Tally {
     pub work: u64,
     pub evaluations: u64,
@@ -46,7 +48,7 @@ pub struct Tally {
 
 // What the search answers.
 #[repr(C)]
-#[derive(Drop)]
+#[derive(Clone, Copy)]
 pub struct SearchReply {
     pub refusal: u64,
     pub place: u64,
@@ -68,7 +70,7 @@ pub struct SearchReply {
 
 // What the listing answers.
 #[repr(C)]
-#[derive(Drop)]
+#[derive(Clone, Copy)]
 pub struct ListReply {
     pub refusal: u64,
     pub place: u64,

@@ -1,4 +1,6 @@
 // The scored search (search.rs, search): the walk's evaluations with their scores, counted and kept.
+#![tactic(auto)]
+
 ghost use Rattle.std.specs.Prelude.{◌≡◌, ◌+◌, ◌*◌, ◌-◌, ◌≤◌, ◌<◌, max, length};
 ghost use Rattle.ground.specs.Lists.{one_more_if};
 ghost use Rattle.image.specs.Inner.{Framed, Groups, Started};
@@ -19,7 +21,7 @@ use search::{SearchBudget, Stop};
 use walks::{Halt, Standing};
 
 // What was evaluated so far, counted by its marks.
-#[derive(Drop)]
+#[derive(Clone, Copy)]
 pub struct Counted {
     pub evaluations: usize,
     pub non_native: u64,
@@ -29,14 +31,14 @@ pub struct Counted {
 }
 
 // What a search has counted, and what its kept rooms hold.
-#[derive(Drop)]
+#[derive(Clone, Copy)]
 pub struct Account {
     pub counted: Counted,
     pub held: kept::Holding,
 }
 
 // How a search ended: its refusal, or which budget stopped it, where its walk then stands, and its account.
-#[derive(Drop)]
+#[derive(Clone, Copy)]
 pub struct Found {
     pub refusal: evaluate::Refusal,
     pub stop: Stop,
@@ -45,7 +47,7 @@ pub struct Found {
 }
 
 // Where seeding ended: its refusal, the natives evaluated, and the account.
-#[derive(Drop)]
+#[derive(Clone, Copy)]
 pub struct Seeded {
     pub refusal: evaluate::Refusal,
     pub natives: usize,

@@ -1,11 +1,13 @@
 // Slots of v words in a lent room, and a score for each.
+#![tactic(auto)]
+
 ghost use Rattle.std.specs.Prelude.{◌≡◌, ◌⊎◌, ◌+◌, ◌*◌, ◌≤◌, length, drop, replicate};
 ghost use Rattle.std.specs.Float.Ieee as Ieee;
 ghost use Rattle.search.specs.Keep.{has, tied_to};
 ghost use Rattle.slots.specs.Inner.{splice, part, same_words, slot_at, put_slot, slots_of, Retained, Blanked, Pruned};
 
 // An assignment's slot, and its score.
-#[derive(Drop)]
+#[derive(Clone, Copy)]
 pub struct Scored {
     pub slot: usize,
     pub objective: f64,

@@ -1,4 +1,6 @@
 // The letters of a crop of a route (02, "The DNA behind the ports").
+#![tactic(auto)]
+
 ghost use Rattle.std.specs.Prelude.{◌≡◌, ◌+◌, ◌-◌, ◌*◌, ◌≤◌, ◌<◌, leb, length, drop, get_or};
 ghost use Rattle.std.proofs.lemmas.List.Edits.{sets};
 ghost use Rattle.storage.specs.Bytes.{part};
@@ -13,7 +15,7 @@ ghost use Rattle.spell.specs.Inner.{size_of, sizes, SlotAt, crop_by, letters_by,
 
 // What the spelling call answers: the refusal, and how many letters of out it wrote.
 #[repr(C)]
-#[derive(Drop)]
+#[derive(Clone, Copy)]
 pub struct SpellReply {
     pub refusal: u64,
     pub place: u64,

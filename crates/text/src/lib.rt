@@ -1,5 +1,7 @@
 // The sheet's text: bytes, numbers in decimal, lines of words and fields, put one behind the other into a room. Bytes that find no
 // room are dropped.
+#![tactic(auto)]
+
 ghost use Rattle.std.specs.Prelude.{◌≡◌, [], ◌∷◌, ◌++◌, length, drop};
 ghost use Rattle.search.specs.Sheet.{decimal, field};
 ghost use Rattle.text.specs.Inner.{Put, last_digit, Digits};

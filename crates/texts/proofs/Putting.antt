@@ -173,7 +173,7 @@ module _ {ns : List (List ℕ)} {text xs : List ℕ} {at to head count routes : 
         let ew : words_from (gathered ns routes (lines_of (drop at text))) ≡ suc (added g) ∷ (four (segment_of ns d.line) ++ words_from g) = ap words_from eg ∙ new_words (segment_of ns d.line) g pos in
         let ea : count + added (gathered ns routes (lines_of (drop at text))) ≡ count = ap (λ (x : List Route). count + added x) eg ∙ (omega arith) in
         let lw : length (words_from (gathered ns routes (lines_of (drop at text)))) ≡ 5 + length (words_from g) = ap length ew ∙ (omega arith) in
-        let f = c.ranges in
+        let f = c.fits in
         let s = c.short in
         let la = length-set ys to 1 in
         let lb = length-sets (set ys to 1) (to + 1) (four (segment_of ns d.line)) in
@@ -205,7 +205,7 @@ module _ {ns : List (List ℕ)} {text xs : List ℕ} {at to head count routes : 
         let ew : words_from (gathered ns routes (lines_of (drop at text))) ≡ four (segment_of ns d.line) ++ words_from g = ap words_from eg ∙ old_words (segment_of ns d.line) g pos in
         let ea : count + added (gathered ns routes (lines_of (drop at text))) ≡ count + 1 + added g = ap (λ (x : List Route). count + added x) eg ∙ rw (old_added (segment_of ns d.line) g pos) (omega arith) in
         let lw : length (words_from (gathered ns routes (lines_of (drop at text)))) ≡ 4 + length (words_from g) = ap length ew ∙ (omega arith) in
-        let f = c.ranges in
+        let f = c.fits in
         let s = c.short in
         let la = length-set ys head (count + 1) in
         let lb = length-sets (set ys head (count + 1)) to (four (segment_of ns d.line)) in
@@ -248,7 +248,7 @@ module _ {ns : List (List ℕ)} {text xs : List ℕ} {at to head count routes : 
       few_words = stands (λ (q : Place). q.to + 4 ≤ 65540) (λ (q : Place) (a : after q) (hd : q.head ≤ to) (tn : q.to ≤ to + 1). let f = a.short in omega arith)
 
       pub hold_head : pl.head < length ys
-      hold_head = stands (λ (q : Place). q.head < length ys) (λ (q : Place) (a : after q) (hd : q.head ≤ to) (tn : q.to ≤ to + 1). let f = c.ranges in let k = four_more in omega arith)
+      hold_head = stands (λ (q : Place). q.head < length ys) (λ (q : Place) (a : after q) (hd : q.head ≤ to) (tn : q.to ≤ to + 1). let f = c.fits in let k = four_more in omega arith)
 
       pub hold_times : Fits w64 (pl.head * 8)
       hold_times =

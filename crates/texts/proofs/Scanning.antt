@@ -28,10 +28,10 @@ use Rattle.texts.proofs.Lines.{text_slots}
 
 pub lane_told : {names starts ends heads links : List ℕ} {lanes : ℕ} {line : List ℕ} {from to : ℕ} (r : ℕ) → Table names starts ends heads links lanes → NameSpan line from to
     → Found (cut 10 names) lanes (take (to - from) (drop from line)) r → r ≡ lane_of (lines_of names) (column 0 line)
-lane_told {names} {starts} {ends} {heads} {links} {lanes} r t sp f = tables.found-lane r (tables.good-table names lanes t.good) f ∙ rw sp.is
+lane_told {names} {starts} {ends} {heads} {links} {lanes} r t sp f = tables.found_lane r (tables.good_table names lanes t.good) f ∙ rw sp.is
 
 pub known_told : {names starts ends heads links : List ℕ} {lanes : ℕ} (line : List ℕ) (r : ℕ) → Table names starts ends heads links lanes → r ≡ lane_of (lines_of names) (column 0 line) → ltb r lanes ≡ known (lines_of names) line
-known_told {names} {starts} {ends} {heads} {links} {lanes} line r t e = let g = tables.good-table names lanes t.good in rw (← g.count, e)
+known_told {names} {starts} {ends} {heads} {links} {lanes} line r t e = let g = tables.good_table names lanes t.good in rw (← g.count, e)
 
 -- ---- slots
 

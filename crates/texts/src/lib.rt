@@ -1,4 +1,6 @@
 // A text of BED, line by line: whether it has the form, the segments of its lines, and the words that it holds.
+#![tactic(auto)]
+
 ghost use Rattle.std.specs.Prelude.{◌≡◌, false, ◌||◌, suc, ◌+◌, ◌*◌, ◌<◌, leb, eqb, length};
 ghost use Rattle.std.proofs.lemmas.List.Edits.{sets};
 ghost use Rattle.ground.specs.Lists.{pick};
@@ -10,7 +12,7 @@ ghost use Rattle.texts.specs.Bed.{known, gathered};
 ghost use Rattle.texts.specs.Inner.{Scanned, Lined, LineAt, place_for, words_from, Holding};
 
 // What a text says as a whole: whether its lines have the form and its names are known, and how many lines and routes it has.
-#[derive(Drop)]
+#[derive(Clone, Copy)]
 pub struct Scan {
     pub good: bool,
     pub known: bool,
@@ -19,7 +21,7 @@ pub struct Scan {
 }
 
 // A line of a text that has the form: its segment, its slot, and where the next one begins.
-#[derive(Drop)]
+#[derive(Clone, Copy)]
 pub struct Line {
     pub segment: evaluate::Segment,
     pub slot: u64,
@@ -27,7 +29,7 @@ pub struct Line {
 }
 
 // Where the words of the next segment go: behind those so far, in the route whose count stands at `head`, of `routes` routes.
-#[derive(Drop)]
+#[derive(Clone, Copy)]
 pub struct Place {
     pub to: usize,
     pub head: usize,

@@ -1,6 +1,8 @@
 // Replays recorded answers of the original (oracle/README.md has the records' form) against the proved calls and what the walk
 // program prints, and says of each kind how many agreed and how many did not.
 
+#![tactic(auto)]
+
 mod assignments;
 mod beds;
 mod bounds;
@@ -15,7 +17,7 @@ mod spellings;
 
 use crate::record::Head;
 
-#[derive(Drop)]
+#[derive(Clone, Copy)]
 struct Score {
     agreed: u64,
     other: u64,
@@ -80,7 +82,7 @@ fn answered(h: Head, image: &[u8], body: &[u8]) -> bool {
 }
 
 // What was counted so far: by call, in the order of their kinds.
-#[derive(Drop)]
+#[derive(Clone, Copy)]
 struct Sheet {
     panel: Score,
     port: Score,
@@ -149,7 +151,7 @@ impl Sheet {
     }
 }
 
-#[derive(Drop)]
+#[derive(Clone, Copy)]
 enum Step {
     More(Sheet),
     End(Sheet),

@@ -13,7 +13,7 @@ pub fn word(s: &[u8], at: usize) -> u64 {
 }
 
 // A head of five words: the kind, the bytes of the whole record, of the image, the argument words, the expected words.
-#[derive(Drop)]
+#[derive(Clone, Copy)]
 pub struct Head {
     pub kind: u64,
     pub whole: u64,

@@ -125,7 +125,7 @@ pub fn is_bits(doubles: [f64; WORDS], bits: [u64; WORDS]) -> bool {
 }
 
 // The needed words of the rooms.
-#[derive(Drop)]
+#[derive(Clone, Copy)]
 pub struct Sizes {
     pub frames: usize,
     pub slot: usize,

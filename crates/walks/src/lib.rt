@@ -1,4 +1,6 @@
 // The budgeted walk over all families (search.rs, search): it goes on until a budget stops it, all is walked, or an evaluation is due.
+#![tactic(auto)]
+
 ghost use Rattle.std.specs.Prelude.{◌≡◌, true, false, ◌+◌, ◌-◌, ◌*◌, ◌≤◌, ◌<◌, min, ltb, length, take};
 ghost use Rattle.ground.specs.Lists.{pick, sum};
 ghost use Rattle.image.specs.Image.{path_counts};
@@ -18,7 +20,7 @@ use frames::Stored;
 use search::{SearchBudget, Stop, Tally};
 
 // Where a walk stands: its counters, its frames, where its family's paths begin, and whether the piece to the top's open hub is clear.
-#[derive(Drop)]
+#[derive(Clone, Copy)]
 pub struct Standing {
     pub tally: Tally,
     pub depth: usize,
@@ -27,13 +29,13 @@ pub struct Standing {
 }
 
 // Why a walk halts: it is stopped, or the route closed by this piece completes what is to be evaluated.
-#[derive(Drop)]
+#[derive(Clone, Copy)]
 pub enum Halt {
     Stopped(Stop),
     Due(Segment),
 }
 
-#[derive(Drop)]
+#[derive(Clone, Copy)]
 pub struct Pause {
     pub halt: Halt,
     pub at: Standing,

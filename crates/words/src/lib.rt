@@ -1,4 +1,6 @@
 // The words of an assignment: whether they are well formed, the segments read in place, the normal form read and written.
+#![tactic(auto)]
+
 ghost use Rattle.std.specs.Prelude.{◌≡◌, [], ◌∷◌, ◌+◌, ◌*◌, ◌≤◌, ◌<◌, min, max, leb, ltb, eqb, length, drop, get_or};
 ghost use Rattle.std.proofs.lemmas.List.Edits.{sets};
 ghost use Rattle.storage.specs.Records.{same_turn};
@@ -92,14 +94,14 @@ pub fn lesser(a: u64, b: u64) -> u64
     if a < b { a } else { b }
 }
 
-pub fn greater(a: u64, b: u64) -> u64
+fn greater(a: u64, b: u64) -> u64
     ensures { result ≡ max a b }
 {
     if a < b { b } else { a }
 }
 
 // A segment of a normal form, and where the given segments that follow it stand.
-#[derive(Drop)]
+#[derive(Clone, Copy)]
 pub struct Cursor {
     pub segment: evaluate::Segment,
     pub at: usize,

@@ -1,4 +1,6 @@
 // The words of an assignment, written from the frames of a path.
+#![tactic(auto)]
+
 ghost use Rattle.std.specs.Prelude.{◌≡◌, ◌+◌, ◌*◌, ◌≤◌, ◌<◌, [], ◌∷◌, length, get_or};
 ghost use Rattle.std.proofs.lemmas.List.Edits.{sets};
 ghost use Rattle.image.specs.Inner.{Groups};
@@ -13,7 +15,7 @@ ghost use Rattle.writer.specs.Inner.{segment_put, whole_put, begun, Roomy, Added
 use evaluate::Segment;
 
 // Where the words written so far end, where the count of the route in hand stands, that count, and how many routes there are.
-#[derive(Drop)]
+#[derive(Clone, Copy)]
 pub struct Pen {
     pub head: usize,
     pub at: usize,

@@ -1,4 +1,4 @@
-use Rattle.bed_overlap.proofs.Meeting.{Going, all_spread, room_long, going_start, going_lined, going_filled, going_less, going_again, going_fails, going_ends}
+use Rattle.bed_overlap.proofs.Meeting.{Going, all_spread, room_long, going_start, going_lined, going_less, going_again, going_fails, going_ends}
 use Prim.Native.Nat.{◌-◌}
 use mathlib.Core.Path.{◌≡◌}
 use lib.ListN.{length}
@@ -22,7 +22,7 @@ are-apart-spec =
     (λ c κs. search rules)  -- no-room-requires
     (λ c. (search going_start, search rules, search (rules, room_long)))  -- loop-holds
     (λ c. search rules)  -- slice-aggregate-is-block-apart
-    (λ c κs. (search rules, search going_lined, search rules, search going_filled))  -- is-block-apart-requires
+    (λ c κs. (search rules, search going_lined, search rules))  -- is-block-apart-requires
     (λ c. search going_less)  -- loop-less
     (λ c. (search going_again, search rules, search rules))  -- loop-again
     (λ c. search going_fails)  -- returns-2

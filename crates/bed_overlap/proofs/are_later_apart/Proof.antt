@@ -1,4 +1,4 @@
-use Rattle.bed_overlap.proofs.Meeting.{Meeting, meeting_start, meeting_lined, meeting_filled, meeting_stands, meeting_less, meeting_again, meeting_fails, meeting_ends}
+use Rattle.bed_overlap.proofs.Meeting.{Meeting, meeting_start, meeting_lined, meeting_less, meeting_again, meeting_fails, meeting_ends}
 use Prim.Native.Nat.{◌+◌, ◌-◌}
 use mathlib.Core.Path.{◌≡◌}
 use lib.ListN.{length}
@@ -19,7 +19,7 @@ are-later-apart-spec =
     tie.close
     (tie.spec invariant-loop decreases-loop
     (λ c. (search meeting_start, search rules, search rules))  -- loop-holds
-    (λ c κs. (search rules, search meeting_lined, search rules, search rules, search meeting_stands, search meeting_filled))  -- is-next-apart-requires
+    (λ c κs. (search rules, search meeting_lined, search rules, search rules))  -- is-next-apart-requires
     (λ c. search meeting_less)  -- loop-less
     (λ c. (search meeting_again, search rules, search rules))  -- loop-again
     (λ c. search rules)  -- same-length

@@ -3,7 +3,7 @@ use Prim.Native.Nat.{◌-◌}
 use mathlib.Core.Path.{◌≡◌}
 use lib.ListN.{length}
 use Rattle.names.specs.Names.{lines_of}
-use Rattle.bed_spread.proofs.Spreading.{Spreading, spreading_start, spreading_lined, spreading_less, spreading_again, spreading_ends, never}
+use Rattle.bed_spread.proofs.Spans.{Spreading, spreading_start, spreading_lined, spreading_less, spreading_again, spreading_ends, never}
 use Rattle.bed_spread.proofs.is_spread.Statement.{statement}
 use Rattle.bed_spread.proofs.is_spread.Tie as tie
 

@@ -1,0 +1,10 @@
+use Rattle.words.proofs.Loops.{SegmentsFrom}
+use Rattle.image.specs.Panel.{panel_of}
+use Rattle.marks.specs.Inner.{on_value, identity_of}
+use Rattle.marks.proofs.is_on_identity.Given as goal
+
+abbrev pub invariant-loop-n : goal.invariant-loop-n
+invariant-loop-n l = SegmentsFrom (on_value (identity_of (panel_of l.image)) l.value) l.words l.at l.left l.place l.n
+
+abbrev pub decreases-loop-n : goal.decreases-loop-n
+decreases-loop-n l = l.n

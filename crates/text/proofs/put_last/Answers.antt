@@ -1,0 +1,5 @@
+use Rattle.text.proofs.Laws.{put_then}
+use Rattle.text.proofs.put_last.Goals as goal
+
+pub returns : goal.returns
+returns c = search put_then
