@@ -1,4 +1,4 @@
-/* panel_routes: the calls of libpanel_routes.a (rt staticlib panel_routes). Every call checks its input itself. */
+/* panel_routes: the calls of libpanel_routes.a (./archive). Every call checks its input itself. */
 #ifndef PANEL_ROUTES_H
 #define PANEL_ROUTES_H
 

@@ -14,13 +14,19 @@ prove() { # the repository, rt's verb, NAME
     log=$1/target/$3.log
     progress=/dev/null
     [ ! -t 2 ] || { progress=/dev/stderr && echo "$3: proving it, crate by crate, this once" >&2; }
-    { (cd "$1" && rt "$2" "$3") </dev/null 2>&1 || echo "$3: not proved"; } | tee "$log" |
-        sed -nu 's/^rt: \([a-z_]* proved.*\)/  \1/p' >"$progress"
+    { (cd "$1/crates/$3" && rt "$2") </dev/null 2>&1 || echo "$3: not proved"; } | tee "$log" |
+        sed -nu 's/^crate \([a-z_]*\): .*/  \1/p' >"$progress"
     [ "$(tail -n 1 "$log")" != "$3: not proved" ] || { tail -n 20 "$log" >&2 && return 1; }
+}
+# Proves and builds the archive, under the name that its users know.
+build_archive() { # the repository
+    prove "$1" lib panel_routes_c
+    mkdir -p "$1/target/staticlib"
+    cp "$1/crates/panel_routes_c/out/libpanel_routes_c.a" "$1/target/staticlib/libpanel_routes.a"
 }
 # The archive that a Rust program links: proved and built, unless PANEL_ROUTES_LIB names one.
 archive() { # the repository
-    [ -n "${PANEL_ROUTES_LIB:-}" ] || prove "$1" staticlib panel_routes
+    [ -n "${PANEL_ROUTES_LIB:-}" ] || build_archive "$1"
     PANEL_ROUTES_LIB=$(realpath "${PANEL_ROUTES_LIB:-$1/target/staticlib/libpanel_routes.a}")
     export PANEL_ROUTES_LIB
 }

@@ -13,7 +13,7 @@ fn main() {
     println!("cargo:rerun-if-changed={}", archive.display());
     let archive = archive.canonicalize().unwrap_or_else(|e| {
         panic!(
-            "{}: {e}; `rt staticlib panel_routes` builds it, PANEL_ROUTES_LIB names another",
+            "{}: {e}; `./archive` builds it, PANEL_ROUTES_LIB names another",
             archive.display()
         )
     });

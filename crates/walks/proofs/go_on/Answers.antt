@@ -1,7 +1,5 @@
 use borrow.Author.Rules.{rules}
-use Rattle.landings.specs.Inner.{Known}
-use Rattle.walks.proofs.Laws.{Going, Outer, by_down, by_due, by_evaluation, by_exhausted, by_frontier, by_leave, by_next, by_pass, by_work, child_lane, evaluations_left, families_few, frontier_room, going_start, less_families, outer_start, over_evaluations, over_going, over_less, ready_of, root_room, start_next, taken_small, under_of}
-use Prim.Native.Nat.{◌-◌}
+use Rattle.walks.proofs.Laws.{by_down, by_due, by_evaluation, by_exhausted, by_frontier, by_leave, by_next, by_pass, by_work, child_lane, evaluations_left, families_few, frontier_room, going_start, less_families, outer_start, over_evaluations, over_going, over_less, ready_of, root_room, start_next, taken_small, under_of}
 use Rattle.walks.proofs.go_on.Goals as goal
 
 pub families-init : goal.families-init

@@ -1,4 +1,3 @@
-use borrow.Author.Rules.{rules}
 use Rattle.walks.proofs.Laws.{further, not_further}
 use Rattle.walks.proofs.goes_past.Goals as goal
 

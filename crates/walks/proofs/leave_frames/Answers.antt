@@ -1,4 +1,3 @@
-use borrow.Author.Rules.{rules}
 use Rattle.walks.proofs.leave_frames.Goals as goal
 
 pub returns : goal.returns

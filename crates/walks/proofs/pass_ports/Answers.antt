@@ -1,7 +1,5 @@
 use borrow.Author.Rules.{rules}
-use Rattle.walks.proofs.Laws.{Striding, stride_start, least_left, close_fits, least_right, stride_next, stride_turn, strode, turn_less}
-use Rattle.landings.specs.Inner.{Known}
-use Prim.Native.Nat.{◌-◌}
+use Rattle.walks.proofs.Laws.{stride_start, least_left, close_fits, least_right, stride_next, stride_turn, strode, turn_less}
 use Rattle.walks.proofs.pass_ports.Goals as goal
 
 pub loop-n-init : goal.loop-n-init

@@ -1,5 +1,4 @@
-use borrow.Author.Rules.{rules}
-use Rattle.walks.proofs.Laws.{Striding, stride_start, least_left, close_fits, least_right, stride_next, stride_turn, strode, turn_less}
+use Rattle.walks.proofs.Laws.{Striding}
 use Rattle.landings.specs.Inner.{Known}
 use Prim.Native.Nat.{◌-◌}
 use Rattle.walks.proofs.pass_ports.Given as goal

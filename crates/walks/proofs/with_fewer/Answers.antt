@@ -1,4 +1,3 @@
-use borrow.Author.Rules.{rules}
 use Rattle.walks.proofs.Laws.{fewer_none}
 use Rattle.walks.proofs.with_fewer.Goals as goal
 
