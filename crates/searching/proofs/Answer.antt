@@ -18,7 +18,7 @@ use Rattle.families.specs.Families.{sound5}
 use Rattle.panel.specs.Refusals.{sound4, sound6, sound7, sound8}
 use Rattle.graph.specs.Check.{ports_checked, later, after_open, checked, refusal_of, panel_refusal}
 use Rattle.evaluate.specs.declared.Refusal.{Refusal}
-use Rattle.evaluate.specs.Refusals.{at, unless}
+use Rattle.evaluate.specs.Refusals.{unless}
 use Rattle.evaluate.specs.Segments.{Assignment}
 use Rattle.evaluate.specs.Words.{bit}
 use Rattle.evaluate.specs.Check.{over}
