@@ -4,8 +4,8 @@ the toolchain's primer says (4.1 to 4.8); a form that it does not know counts as
 import re
 
 TOKEN = re.compile(r'«[^»]*»|[(){};,.@]|[^\s(){}.;,@"«»]+')
-MARKS = ('pub', 'abbrev', 'unfoldable', 'axiom')
-WORDS = set('''data record deriving module where use mod pub package using open as unfoldable abbrev axiom unfold
+MARKS = ('pattern', 'pub', 'abbrev', 'unfoldable', 'axiom')
+WORDS = set('''data record deriving module where use mod pub package open as unfoldable abbrev axiom unfold
     unfolding ruleset mutual infix infixl infixr elim let in do λ ∀ → × : = ↦ | [ ] _ ←'''.split())
 PUNCTUATION = '(){};,.@'
 
@@ -26,15 +26,15 @@ def items(braces):
     """The items of a `use` line's braces: (name, the name that the file has for it)."""
     for item in filter(None, (x.strip() for x in braces.split(','))):
         name, _, alias = item.partition(' as ')
-        yield name.strip(), (alias or name).strip()
+        yield name.strip(), alias.strip() or re.split(r'\.|::', name.strip())[-1]
 
 
 def mentioned(name, names):
-    """Whether the names mention this one; an operator also by its parts, `a + b`, and by a section, `(_+ 1)`."""
+    """Whether the names mention this one; an operator also by its parts, `a + b`, and by a section, `(◌+ 1)`."""
     if name in names:
         return True
-    parts = [] if name.startswith('«') or '_' not in name else [p for p in name.split('_') if p]
-    return bool(parts) and all({p, '_' + p, p + '_', '_' + p + '_'} & names for p in parts)
+    parts = [p for p in name.split('◌') if p] if '◌' in name else []
+    return bool(parts) and all({p, '◌' + p, p + '◌', '◌' + p + '◌'} & names for p in parts)
 
 
 def closing(text, i):
@@ -146,6 +146,8 @@ class Scope:
                 frames[-1] |= bind(i + 1, ts.until(i + 1, ('.',)))
             elif t == 'let':
                 lets.append(bind(i + 1, ts.until(i + 1, ('=', ':'))))
+            elif t == 'unfold':
+                lets.append(set())
             elif t == 'in' and lets:
                 frames[-1] |= lets.pop()
             elif t in ('[', '|'):
@@ -169,7 +171,7 @@ class Block:
 
 
 class File:
-    def __init__(self, text, constructors=frozenset()):
+    def __init__(self, text, constructors=frozenset(), modules=frozenset()):
         self.lines = text.split('\n')
         self.uses = []  # (line, path, items)
         self.modules = {}  # name: (line, path), of each module brought in
@@ -187,9 +189,9 @@ class File:
                 self.modules[whole[2] or whole[1].split('.')[-1]] = (n, whole[1])
             elif line.strip() and not re.match(r'(?:pub )?mod ', line):
                 body.append((n, line))
-        # what a library of the kit brings may be a constructor
-        kit = {alias for _, path, names in self.uses if not path.startswith('Rattle·') for _, alias in names}
-        self.scope = Scope(set(constructors) | kit | {p for x in kit for p in x.split('_')})
+        # what a module that is not the repository's brings, the kit's or one that is made, may be a constructor
+        kit = {alias for _, path, names in self.uses if path not in modules for _, alias in names}
+        self.scope = Scope(set(constructors) | kit | {p for x in kit for p in x.split('◌')})
         self.read(body)
 
     def read(self, body):
@@ -233,6 +235,15 @@ class File:
         if head == 'unfolding':
             self.mention(block, self.scope.free(ts, (), i + 1))
             return None
+        if head == 'open':
+            names = self.scope.free(ts, block.bound, i + 1)
+            block.shared |= names
+            self.mention(block, names)
+            return None
+        if head == 'ruleset':
+            self.declare(block, ts[i + 1], piece[0][0])
+            self.mention(block, self.scope.free(ts, block.bound, i + 2))
+            return None
         if ts[typed:typed + 1] == ['{']:
             typed = closing(ts, typed) + 1
         if ts[typed:typed + 1] == [':']:
@@ -240,6 +251,8 @@ class File:
                 self.declare(block, head, piece[0][0])
             if block.kind == 'constructors':
                 self.owner[head] = block.declared
+            if 'pattern' in ts[:i]:
+                self.owner[head] = head
             self.mention(block, self.scope.free(ts, block.bound, typed + 1))
             if block.kind in ('fields', 'where'):
                 block.bound.add(head)

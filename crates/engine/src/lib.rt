@@ -133,7 +133,7 @@ fn give(
 // ---- the steps
 
 // The step at a place: its terminal, then its ports.
-#[cycle(act_step_hub_step_place_step_ports_step)]
+#[cycle(steps)]
 fn place_step(
     image: &[u8],
     starts: &[usize; 4096],
@@ -164,7 +164,7 @@ fn place_step(
 }
 
 // The ports ahead, one after the other, each with its hub.
-#[cycle(act_step_hub_step_place_step_ports_step)]
+#[cycle(steps)]
 fn ports_step(
     image: &[u8],
     starts: &[usize; 4096],
@@ -194,7 +194,7 @@ fn ports_step(
 }
 
 // The step through a hub: its members from the next to the end, by halves, so that few calls are under way at once.
-#[cycle(act_step_hub_step_place_step_ports_step)]
+#[cycle(steps)]
 fn hub_step(
     image: &[u8],
     starts: &[usize; 4096],
@@ -231,7 +231,7 @@ fn hub_step(
 }
 
 // What a terminal or a hub's member does: it leads down to the next place, or one is listed, or it is passed over.
-#[cycle(act_step_hub_step_place_step_ports_step)]
+#[cycle(steps)]
 fn act_step(
     image: &[u8],
     starts: &[usize; 4096],

@@ -1,0 +1,12 @@
+use Rattle.graph.proofs.Laws.{accepted_told}
+use Rattle.bed.proofs.Answers.{read_answer_is, read_out_is, read_told, read_refused, read_untouched, read_stopped}
+use Rattle.bed.proofs.read_bed.Goals as goal
+
+pub read_panel-requires : goal.read_panel-requires
+read_panel-requires c = search accepted_told
+
+pub returns-in-Good : goal.returns-in-Good
+returns-in-Good c = record { value = search read_answer_is; out_after = search read_out_is; read_holds = search read_told }
+
+pub returns-in-Refused : goal.returns-in-Refused
+returns-in-Refused c = record { value = search read_refused; out_after = search read_untouched; read_holds = search read_stopped }
