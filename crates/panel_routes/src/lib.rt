@@ -96,12 +96,7 @@ fn port_reply(found: graph::Found, port: storage::Port) -> PortReply
     }
 }
 
-pub fn panel_routes_port_at_cut(
-    image: &[u8],
-    lane: u64,
-    cut: u64,
-    reverse: bool,
-) -> PortReply
+pub fn panel_routes_port_at_cut(image: &[u8], lane: u64, cut: u64, reverse: bool) -> PortReply
     ensures { result ≡ port_reply (port_answer image.now lane cut reverse) }
 {
     let a = graph::port_at_cut(image, lane, cut, reverse);
@@ -184,11 +179,7 @@ pub fn panel_routes_lower_bound(counts: &[u64], background: f64) -> bound::Bound
 }
 
 // The plain engine: all legal assignments, without budgets, from number from + 1 on, until one doesn't fit into out.
-pub fn panel_routes_plain_list(
-    image: &[u8],
-    from: u64,
-    out: &mut [u64],
-) -> engine::PlainReply
+pub fn panel_routes_plain_list(image: &[u8], from: u64, out: &mut [u64]) -> engine::PlainReply
     ensures value { result ≡ plain_answer image.now from (length out.old) }
     ensures out_after { out.new ≡ plain_out image.now from out.old }
     ensures plain_holds { PlainHolds image.now from out.old result out.new }

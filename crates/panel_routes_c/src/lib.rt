@@ -110,7 +110,10 @@ pub extern "C" fn panel_routes_plain_list(
 
 // Whether the letters are the lanes', lane after lane, and every port's word is what they read.
 #[unsafe(no_mangle)]
-pub extern "C" fn panel_routes_check_letters(image: &[u8], letters: &[u8]) -> panel_routes::PanelReply
+pub extern "C" fn panel_routes_check_letters(
+    image: &[u8],
+    letters: &[u8],
+) -> panel_routes::PanelReply
     ensures { result ≡ letters_reply (letters_answer image.now letters.now) }
 {
     panel_routes::panel_routes_check_letters(image, letters)

@@ -7,6 +7,7 @@ const INPUT: usize = jobs::BYTES + 1;
 
 // The standard streams.
 const STDIN: i32 = 0;
+
 const STDOUT: i32 = 1;
 
 fn input() -> [u8; INPUT] {
