@@ -1,7 +1,7 @@
 use native.Mathlib.Omega.{arith}
 use mathlib.Core.Path.{refl}
 use Rattle.engine.proofs.Gathering.{standing_next, in_hand_stays}
-use Rattle.engine.proofs.Acting.{act_down, act_give, act_pass, act_leave, hub_none, hub_one, hub_halves, part, part_hand, part_flagged, flagged_stays, hub_few, ports_hub, ports_flagged, ports_less, ports_next, ports_done, place_deep, place_on, place_waits, place_closed, place_then, place_hand, place_done}
+use Rattle.engine.proofs.Acting.{act_down, act_give, act_pass, act_leave, hub_none, hub_one, hub_halves, part, part_hand, part_flagged, meet_ready, flagged_stays, hub_few, ports_start, ports_hub, ports_flagged, ports_less, ports_next, ports_done, place_deep, put_room, place_standing, place_on, place_waits, place_acts, place_closed, place_then, place_hand, place_done}
 use Prim.Native.Nat.{◌+◌, ◌-◌, ◌/◌}
 use Rattle.engine.proofs.+steps.Goals as goal
 
@@ -20,6 +20,9 @@ act_step-returns-in-Leave t c = act_leave c.args.image.now c.args.here c.args.pa
 pub hub_step-returns-then-g : goal.hub_step-returns-then-g
 hub_step-returns-then-g t c = hub_none c.args.image.now c.args.here c.args.lane c.args.path.now c.args.g c.if-g.true c.requires.1.within c.requires.1.written c.requires.1.known
 
+pub hub_step-meet-action-requires : goal.hub_step-meet-action-requires
+hub_step-meet-action-requires t c = let x = c.if-g.false in meet_ready c.requires.2 (omega arith)
+
 pub hub_step-returns-then-n-eq1 : goal.hub_step-returns-then-n-eq1
 hub_step-returns-then-n-eq1 t c = hub_one c.args.image.now c.args.here c.args.lane c.args.path.now c.args.g _ c.if-n-eq1.true c.requires.2 c.requires.3 c.meet-action.ensures c.act_step.ensures
 
@@ -32,14 +35,23 @@ hub_step-returns t c = let x = c.if-g.false in hub_halves c.args.image.now c.arg
 pub place_step-returns-then-here-eq0 : goal.place_step-returns-then-here-eq0
 place_step-returns-then-here-eq0 t c = place_deep c.args.image.now c.args.starts.now c.args.path.now c.args.slot.now c.args.out.now c.args.here c.args.c c.args.l _ c.if-here-eq0.true c.too_deep.ensures c.requires.0
 
+pub place_step-put_frame-requires : goal.place_step-put_frame-requires
+place_step-put_frame-requires t c = put_room c.args.image.now c.args.starts.now c.args.path.now c.args.slot.now c.args.out.now c.args.here c.args.c c.args.l c.requires.0 c.requires.1 c.if-here-eq0.false
+
 pub place_step-terminal_unit-t-requires : goal.place_step-terminal_unit-t-requires
 place_step-terminal_unit-t-requires t c = let e = c.put_frame.ensures in (rw e (place_on c.args.image.now c.args.starts.now c.args.path.now c.args.slot.now c.args.out.now c.args.here c.args.c c.args.l c.requires.0 c.requires.1 c.if-here-eq0.false _ c.lane_of-lane.ensures.0 c.lane_of-lane.ensures.1 _ c.enter-f.ensures), place_waits c.args.image.now c.args.starts.now c.args.path.now c.args.slot.now c.args.out.now c.args.here c.args.c c.args.l c.requires.0 c.requires.1 c.if-here-eq0.false _ c.lane_of-lane.ensures.0 c.lane_of-lane.ensures.1 _ c.enter-f.ensures)
+
+pub place_step-act_step-now-requires : goal.place_step-act_step-now-requires
+place_step-act_step-now-requires t c = let e = c.put_frame.ensures in let n = c.if-here-eq0.false in let tu = rw e at c.terminal_unit-t.ensures in (omega arith, (omega arith, rw e (place_standing c.args.image.now c.args.starts.now c.args.path.now c.args.slot.now c.args.out.now c.args.here c.args.c c.args.l c.requires.0 c.requires.1 n), place_acts c.args.image.now c.args.starts.now c.args.path.now c.args.slot.now c.args.out.now c.args.here c.args.c c.args.l c.requires.0 c.requires.1 n _ c.lane_of-lane.ensures.0 c.lane_of-lane.ensures.1 _ c.enter-f.ensures _ tu))
 
 pub place_step-ports_step-requires : goal.place_step-ports_step-requires
 place_step-ports_step-requires t c = let e = c.put_frame.ensures in let n = c.if-here-eq0.false in let tu = rw e at c.terminal_unit-t.ensures in let ac = rw e at c.act_step-now.ensures in (omega arith, (omega arith, place_then c.args.image.now c.args.starts.now c.args.path.now c.args.slot.now c.args.out.now c.args.here c.args.c c.args.l c.requires.0 c.requires.1 n _ c.lane_of-lane.ensures.0 c.lane_of-lane.ensures.1 _ c.enter-f.ensures _ tu ac, place_hand c.args.image.now c.args.starts.now c.args.path.now c.args.slot.now c.args.out.now c.args.here c.args.c c.args.l c.requires.0 c.requires.1 n _ c.lane_of-lane.ensures.0 c.lane_of-lane.ensures.1 _ c.enter-f.ensures _ tu ac, place_closed c.args.image.now c.args.starts.now c.args.path.now c.args.slot.now c.args.out.now c.args.here c.args.c c.args.l c.requires.0 c.requires.1 n _ c.lane_of-lane.ensures.0 c.lane_of-lane.ensures.1 _ c.enter-f.ensures _ tu))
 
 pub place_step-returns : goal.place_step-returns
 place_step-returns t c = let e = c.put_frame.ensures in let tu = rw e at c.terminal_unit-t.ensures in let ac = rw e at c.act_step-now.ensures in place_done c.args.image.now c.args.starts.now c.args.path.now c.args.slot.now c.args.out.now c.args.here c.args.c c.args.l c.requires.0 c.requires.1 c.if-here-eq0.false _ c.lane_of-lane.ensures.0 c.lane_of-lane.ensures.1 _ c.enter-f.ensures _ tu ac c.ports_step.ensures
+
+pub ports_step-loop-here-init : goal.ports_step-loop-here-init
+ports_step-loop-here-init t c = ports_start c.requires.1 c.requires.2 c.requires.3
 
 pub ports_step-hub_step-now-requires : goal.ports_step-hub_step-now-requires
 ports_step-hub_step-now-requires t c = let v = c.loop-here.invariant in let s = v.standing in let tu = c.pass_port-t.ensures in let hand = ports_hub v _ c.has_port.ensures _ tu.turned c.loop-here-test.true _ c.in_reach-f.ensures in let few = hub_few hand in (omega arith, (c.requires.0, record { accepted = s.accepted; started = s.started; known = tu.known; groups = s.groups; room = s.room; few = s.few; scratch = s.scratch; within = s.within; written = s.written }, hand, ports_flagged v _ c.has_port.ensures _ tu.turned c.loop-here-test.true _ c.in_reach-f.ensures))

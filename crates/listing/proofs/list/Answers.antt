@@ -1,4 +1,3 @@
-use borrow.Author.Rules.{rules}
 use Rattle.listing.proofs.Answer.{list-answer, list_refused, list-rooms, list_untouched}
 use Rattle.graph.proofs.Laws.{accepted_told}
 use Rattle.listing.proofs.list.Goals as goal
