@@ -8,7 +8,7 @@ mod beds;
 mod bounds;
 mod listings;
 mod lookups;
-mod plain;
+mod plain_lists;
 mod printed;
 mod record;
 mod rooms;
@@ -72,7 +72,7 @@ fn answered(h: Head, image: &[u8], body: &[u8]) -> bool {
         6 => searches::is_search(image, body, arguments, at, end),
         7 => printed::is_job(image, body, at, end),
         8 => bounds::is_bound(body, arguments, at, end),
-        9 => plain::is_plain(image, body, arguments, at, end),
+        9 => plain_lists::is_plain(image, body, arguments, at, end),
         10 => spellings::is_letters(image, body, arguments, at, end),
         11 => spellings::is_spell(image, body, arguments, at, end),
         12 => beds::is_write(image, body, arguments, at, end),
