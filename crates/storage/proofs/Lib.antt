@@ -1,3 +1,4 @@
 pub mod Laws
 pub mod OrderLaws
 pub mod BucketLaws
+pub mod CopyLaws
