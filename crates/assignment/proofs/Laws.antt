@@ -30,9 +30,7 @@ use Rattle.evaluate.specs.Check.{routes_refusal, overlap_refusal, assignment_ref
 use Rattle.evaluate.proofs.Native.{checked_none}
 use Rattle.words.specs.Inner.{routes_of, assignment_of, Parsed, Formed, NormalPut}
 use Rattle.words.proofs.Writing.{routes_length}
-use Rattle.overlap.proofs.Given.{AllFilled, apart_given, routes_filled}
-use Rattle.ordered.specs.Inner.{Filled}
-use Rattle.ordered.proofs.Given.{flat_filled}
+use Rattle.overlap.proofs.Given.{apart_given, routes_filled}
 use Rattle.assignment.specs.Inner.{family_refusal, Replied}
 use Rattle.assignment.proofs.Given.{given_formed}
 
@@ -78,20 +76,13 @@ module _ (s : List ℕ) (h : Header) (a : Assignment) (f : Family) (g : Groups s
   unfolding family_refusal
   routes_refused z = rw (← same) (at_found r (at (overlap_refusal a) 0 no_refusal) z)
 
-  all_filled : r.number ≤ 0 → AllFilled a.routes
-  all_filled none =
-      let z : r.number ≡ 0 = omega arith in
-      let q : (routes_refusal (panel_of s) 0 (paths_at (panel_of s) f.number) a.routes).number ≡ 0 = ap (λ (x : Refusal). x.number) (sym er) ∙ z in
-      let l : length a.routes ≡ length (paths_at (panel_of s) f.number) = el ∙ sym (paths_length s h f g) in
-      routes_filled (panel_of s) 0 (paths_at (panel_of s) f.number) a.routes l q
-
-  -- no span is empty where no route is refused
-  pub flat_sound : r.number ≤ 0 → Filled (flat a.routes)
-  flat_sound none = flat_filled a.routes (all_filled none)
-
   module _ (none : r.number ≤ 0) (b : Bool) (eb : b ≡ apart (flat a.routes)) where
     given : apart (flat (map normalize a.routes)) ≡ b
-    given = apart_given a.routes (all_filled none) ∙ sym eb
+    given =
+        let z : r.number ≡ 0 = omega arith in
+        let q : (routes_refusal (panel_of s) 0 (paths_at (panel_of s) f.number) a.routes).number ≡ 0 = ap (λ (x : Refusal). x.number) (sym er) ∙ z in
+        let l : length a.routes ≡ length (paths_at (panel_of s) f.number) = el ∙ sym (paths_length s h f g) in
+        apart_given a.routes (routes_filled (panel_of s) 0 (paths_at (panel_of s) f.number) a.routes l q) ∙ sym eb
 
     later : family_refusal (panel_of s) a ≡ at (unless b 31 0) 0 no_refusal
     unfolding family_refusal overlap_refusal
@@ -114,9 +105,6 @@ module _ (s : List ℕ) (h : Header) (ws : List ℕ) (f : Family) (g : Groups s 
 
   pub family_refused : 0 < r.number → r ≡ family_refusal (panel_of s) (assignment_of ws)
   family_refused = routes_refused s h (assignment_of ws) f g en long r said
-
-  pub family_filled : r.number ≤ 0 → Filled (flat (routes_of f.count (drop 2 ws)))
-  family_filled none = rw ec (flat_sound s h (assignment_of ws) f g en long r said none)
 
   module _ (none : r.number ≤ 0) (b : Bool) (eb : b ≡ apart (flat (routes_of f.count (drop 2 ws)))) where
     pub family_overlap : (x : Refusal) → b ≡ false → x ≡ record { number = 31; place = 0 } → x ≡ family_refusal (panel_of s) (assignment_of ws)

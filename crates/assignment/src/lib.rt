@@ -48,7 +48,7 @@ fn family_refusal(
     if 0 < r.number {
         return r;
     }
-    if ordered::are_apart(words, 2, f.count) {
+    if overlap::are_apart(words, 2, f.count) {
         refusal(0)
     } else {
         refusal(31)

@@ -65,14 +65,6 @@ module _ (s : List ℕ) (h : Header) (a : Bool) (ea : a ≡ sound4 h s) where
       unfolding later
       ports_told r t e = e ∙ rw (← ea, ta, ← eb, t)
 
-module _ (s : List ℕ) (h : Header) (a : Bool) (ea : a ≡ (sound6 h s && sound7 h s && sound8 h s)) where
-  pub fine_told : a ≡ true → Good h ≡ ports_checked h s
-  unfolding ports_checked
-  fine_told t =
-      let (m, e8) = both (sound6 h s && sound7 h s) (sound8 h s) (sym ea ∙ t) in
-      let (e6, e7) = both (sound6 h s) (sound7 h s) m in
-      rw (e6, e7, e8)
-
 module _ (s : List ℕ) (h : Header) (c : Bool) (ec : c ≡ sound6 h s) where
   pub refused_6 : c ≡ false → Refused 6 ≡ ports_checked h s
   unfolding ports_checked

@@ -20,7 +20,6 @@ fn check_ports(image: &[u8], h: image::Header) -> image::Opened
     check_records(image, h, &starts)
 }
 
-// The fast test first; only where it fails the number is looked for.
 fn check_records(
     image: &[u8],
     h: image::Header,
@@ -29,9 +28,6 @@ fn check_records(
     requires { Started image.now h starts.now }
     ensures { result ≡ ports_checked h image.now }
 {
-    if copies::is_fine(image, h, starts) {
-        return image::Opened::Good(h);
-    }
     if panel::are_sound(image, h, starts) {
         if panel::are_rising(image, h, starts) {
             if panel::are_listed(image, h, starts) {

@@ -352,7 +352,7 @@ pub fn list(
     out: &mut [u64],
 ) -> search::ListReply
     ensures value { result ≡ list_answer image.now b from (record { frames = frames.entry.now; slot = slot.old; out = out.old }) }
-    ensures rooms_after { ◌≡◌ {A = ListRooms} (record { frames = frames.exit.now; slot = slot.new; out = out.new }) (list_rooms image.now b from (record { frames = frames.entry.now; slot = slot.old; out = out.old })) }
+    ensures fact { ◌≡◌ {A = ListRooms} (record { frames = frames.exit.now; slot = slot.new; out = out.new }) (list_rooms image.now b from (record { frames = frames.entry.now; slot = slot.old; out = out.old })) }
 {
     match graph::check_panel(image) {
         image::Opened::Good(h) => list_panel(image, h, b, from, frames, slot, out),

@@ -103,7 +103,7 @@ module _ (s t : Segment) (hs : s.start < s.end) (ht : t.start < t.end) (j : Join
 
 -- ---- a route
 
-pub filled_append : (l m : Route) → Filled l → Filled m → Filled (l ++ m)
+filled_append : (l m : Route) → Filled l → Filled m → Filled (l ++ m)
 filled_append [] m h k = k
 filled_append (s ∷ l) m h k = (h.0, filled_append l m h.1 k)
 

@@ -1,7 +1,10 @@
 -- Laws of the panel check.
 use Prim.Native.Nat.{ℕ, zero, suc, ◌+◌, ◌-◌, ◌*◌, ◌≤◌, ◌<◌}
 use native.Mathlib.Omega.{arith}
-use native.Mathlib.Nat.{eq-or-lt_of_le}
+use native.Mathlib.Nat.{eq-or-lt_of_le, mul-le-mul_right}
+use mir.Val.{Fits}
+use mir.Syntax.{w64}
+use borrow.Author.Rules.{Fits-under}
 use mathlib.Core.Path.{◌≡◌, refl, sym, ap, ◌∙◌}
 use mathlib.Core.Bool.{Bool, true, false, ◌&&◌, ◌||◌}
 use mathlib.Core.List.{List, [], ◌∷◌}
@@ -23,7 +26,7 @@ use Rattle.image.specs.declared.Entry.{Entry}
 use Rattle.image.specs.declared.Lane.{Lane}
 use Rattle.image.specs.Image.{entries, counts, lane_ports, ports_of, hub, no_entry}
 use Rattle.image.specs.Inner.{Framed, Stands}
-use Rattle.image.proofs.Laws.{row_length, rows_length, entries_length, lane_port_is, lane_index}
+use Rattle.image.proofs.Laws.{row_length, lane_within, rows_length, entries_length, lane_port_is, lane_index}
 use Rattle.panel.specs.Refusals.{length_ok, letter, sound_place, sound_port, sound_record, sound_records, is_true, lane_rising, lanes_rising, listed, own_row}
 use Rattle.panel.specs.Inner.{Ordered, Accepted}
 
@@ -65,7 +68,7 @@ module _ (w : List ℕ) (k i : ℕ) (good r : Bool) (so : Tested w k good i) (lo
 pub tested_all : (w : List ℕ) (k i : ℕ) (good : Bool) → Tested w k good i → length w ≡ k → k ≤ i → good ≡ all letter w
 tested_all w k i good so long le = sym (so.todo ∙ rw (all_done 0 letter w i (omega arith)) (kept good))
 
-pub leb_minus : (a k n : ℕ) → k ≤ n → leb a (n - k) ≡ leb (a + k) n
+leb_minus : (a k n : ℕ) → k ≤ n → leb a (n - k) ≡ leb (a + k) n
 leb_minus a k n h = go (leb a (n - k)) refl
   where
     go : (t : Bool) → leb a (n - k) ≡ t → leb a (n - k) ≡ leb (a + k) n
@@ -120,6 +123,17 @@ before_falls anchor reverse l e p q le m t = go (eq-or-lt_of_le le)
     go : (p ≡ q) ⊎ (p < q) → ltb (place (get_or l p no_port)) (place_of anchor reverse) ≡ true
     go (inl same) = rw same t
     go (inr lt) = let r = lane_rises l e p q lt m in lt-ltb (place (get_or l p no_port)) (place_of anchor reverse) (omega (arith, top))
+
+pub lane_few : (s : List ℕ) (h : Header) (l : Lane) → Stands s h l → l.count ≤ 4194304
+lane_few s h l stands = omega (arith, lane_within s h l stands, stands.counted.framed.few_ports)
+
+-- the product of an anchor on a lane and its count
+pub evenly_fits : (a len n : ℕ) → a < len → len ≤ 4294967295 → n ≤ 4194304 → Fits w64 (a * n)
+evenly_fits a len n l m few =
+    let x : a ≤ 4294967295 = omega arith in
+    let p = mul-le-mul_right n x in
+    let b : a * n < 18446744073709551615 = omega arith in
+    Fits-under w64 (a * n) 18446744073709551615 b tt
 
 -- a turn that looks at any place between
 module _ (s : List ℕ) (h : Header) (l : Lane) (anchor : ℕ) (reverse : Bool) (lo hi at : ℕ) (r : Bool) (stands : Stands s h l) (rises : lane_rising (ports_of h s l.number) ≡ true)
@@ -195,7 +209,7 @@ module _ (s : List ℕ) (h : Header) (g : Port) (l : Lane) (i source anchor : �
   pub listed_told : (r : Bool) → r ≡ (ltb i l.count && same_port g (get_or (ports_of h s l.number) i no_port)) → r ≡ listed h s g
   listed_told r t = t ∙ sym (listed_here ∙ rw (row_length s h l stands))
 
-pub any_one : {A : Type 0} (d : A) (f : A → Bool) (l : List A) (i : ℕ) → i < length l → f (get_or l i d) ≡ true → true ≡ any f l
+any_one : {A : Type 0} (d : A) (f : A → Bool) (l : List A) (i : ℕ) → i < length l → f (get_or l i d) ≡ true → true ≡ any f l
 unfolding any
 any_one d f [] i lt e = absurd (omega arith)
 any_one d f (a ∷ l) zero lt e = rw e
@@ -221,14 +235,6 @@ here_told i n r b lt e = e ∙ rw (lt-ltb i n lt)
 
 pub here_none : (i n : ℕ) (b : Bool) → n ≤ i → false ≡ (ltb i n && b)
 here_none i n b le = rw (le-ltb i n le)
-
--- a sound record names a lane
-pub record_named : (s : List ℕ) (h : Header) (r : List ℕ) → sound_record h s r ≡ true → (port_of h.k r).source < h.lanes
-unfolding sound_record sound_place
-record_named s h r e =
-    let m = (both (all letter (take h.k r) && leb (get_or r (h.k + 16) 0) 1) (sound_port h s (port_of h.k r)) e).1 in
-    let n = (both (ltb (port_of h.k r).source h.lanes) (leb ((port_of h.k r).anchor + h.k) (get_or (entries h s) (port_of h.k r).source no_entry).len) m).0 in
-    ltb-true (port_of h.k r).source h.lanes n
 
 pub hub_named : (s : List ℕ) (h : Header) (i : ℕ) (g : Port) → Ordered s h → i < h.ports → g ≡ get_or (hub h s) i no_port → g.source < h.lanes
 unfolding hub sound_records sound_record sound_place
@@ -262,20 +268,16 @@ module _ (s : List ℕ) (h : Header) (i at : ℕ) (off : Offset s h.hub_at h.por
 
 -- ---- what the tests say of one record
 
--- of N sound records each is sound
-pub mark_sound : (s : List ℕ) (h : Header) (base j : ℕ) → sound_records h s base ≡ true → j < h.ports → sound_record h s (drop (base + j * (h.k + 17)) s) ≡ true
-unfolding sound_records
-mark_sound s h base j e lt =
-    let room : j < length (each (sound_record h s) (h.k + 17) h.ports (drop base s)) = rw (marks_length s h base) lt in
-    sym (each_from (sound_record h s) (h.k + 17) true h.ports s base j lt) ∙ all_at true is_true (each (sound_record h s) (h.k + 17) h.ports (drop base s)) j e room
-
 pub record_sound : (s : List ℕ) (h : Header) (base j : ℕ) → sound_records h s base ≡ true → j < h.ports
     → sound_port h s (get_or (each (port_of h.k) (h.k + 17) h.ports (drop base s)) j no_port) ≡ true
-unfolding sound_record
+unfolding sound_records sound_record
 record_sound s h base j e lt =
     let at = drop (base + j * (h.k + 17)) s in
+    let room : j < length (each (sound_record h s) (h.k + 17) h.ports (drop base s)) = rw (marks_length s h base) lt in
+    let told = all_at true is_true (each (sound_record h s) (h.k + 17) h.ports (drop base s)) j e room in
+    let mark : sound_record h s at ≡ true = sym (each_from (sound_record h s) (h.k + 17) true h.ports s base j lt) ∙ told in
     let port = each_from (port_of h.k) (h.k + 17) no_port h.ports s base j lt in
-    ap (sound_port h s) port ∙ (both (all letter (take h.k at) && leb (get_or at (h.k + 16) 0) 1) (sound_port h s (port_of h.k at)) (mark_sound s h base j e lt)).1
+    ap (sound_port h s) port ∙ (both (all letter (take h.k at) && leb (get_or at (h.k + 16) 0) 1) (sound_port h s (port_of h.k at)) mark).1
 
 pub port_small : (s : List ℕ) (h : Header) (p : Port) → Framed s h → all length_ok (entries h s) ≡ true → sound_port h s p ≡ true → p.anchor + h.k ≤ 4294967295
 unfolding sound_place length_ok

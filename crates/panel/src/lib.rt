@@ -1,15 +1,16 @@
 // The panel check: refusals 4 and 6 to 8.
 #![tactic(auto)]
 
-ghost use Rattle.std.specs.Prelude.{◌≡◌, ◌+◌, ◌≤◌, ◌<◌, true, ◌&&◌, leb, ltb, eqb, length, drop, take, get_or};
+ghost use Rattle.std.specs.Prelude.{◌≡◌, ◌+◌, ◌≤◌, ◌<◌, true, ◌&&◌, ltb, eqb, length, drop, take, get_or};
 ghost use Rattle.ground.specs.Lists.{sum, each, all, count, numbers_from};
 ghost use Rattle.storage.specs.Records.{port_of, no_port, record_size};
 ghost use Rattle.storage.specs.Orders.{place_before, same_port};
 ghost use Rattle.storage.specs.Inner.{Records};
+ghost use Rattle.image.specs.Sizes.{most_ports};
 ghost use Rattle.image.specs.Image.{entries, counts, ports_of, hub, no_entry};
 ghost use Rattle.image.specs.Inner.{Framed, Started, Stands};
 ghost use Rattle.panel.specs.Refusals.{length_ok, sound4, letter, sound_place, sound_record, sound_records, from, own_row, own_rows, sound6, lane_rising, lanes_rising, hub_rising, sound7, listed, sound8};
-ghost use Rattle.panel.specs.Inner.{Ordered, row_marks, row_fine};
+ghost use Rattle.panel.specs.Inner.{Ordered};
 
 // ---- 4
 
@@ -117,7 +118,7 @@ fn is_place(image: &[u8], h: image::Header, source: u64, anchor: u64) -> bool
     }
 }
 
-pub fn is_record(image: &[u8], h: image::Header, at: usize) -> bool
+fn is_record(image: &[u8], h: image::Header, at: usize) -> bool
     requires { Framed image.now h × (at + record_size h.k ≤ length image.now) }
     ensures { result ≡ sound_record h image.now (drop at image.now) }
 {
@@ -221,7 +222,7 @@ pub fn are_sound(image: &[u8], h: image::Header, starts: &[usize; image::Header:
 
 // ---- 7
 
-pub fn is_hub_rising(image: &[u8], h: image::Header) -> bool
+fn is_hub_rising(image: &[u8], h: image::Header) -> bool
     requires { Framed image.now h }
     ensures { result ≡ hub_rising h image.now }
 {
@@ -297,101 +298,49 @@ pub fn are_rising(image: &[u8], h: image::Header, starts: &[usize; image::Header
     ground::both(are_lanes_rising(image, h, starts), is_hub_rising(image, h))
 }
 
-// ---- 6 and 7 of the lanes' lists in one pass
-
-// Whether a record of a lane ends in it; no sum that could wrap.
-fn is_end(h: image::Header, l: image::Lane, anchor: u64) -> bool
-    ensures { result ≡ leb (anchor + h.k) l.len }
-{
-    let k = h.k as u64;
-    if l.len < k {
-        false
-    } else {
-        anchor <= l.len - k
-    }
-}
-
-// Whether the record at a byte offset is sound and names this lane, whose entry is not read again.
-fn is_own_record(image: &[u8], h: image::Header, l: image::Lane, at: usize) -> bool
-    requires { Stands image.now h l × (at + record_size h.k ≤ length image.now) }
-    ensures { result ≡ (sound_record h image.now (drop at image.now) && from l.number (port_of h.k (drop at image.now))) }
-{
-    let k = h.k;
-    let letters = are_letters(image, at, k);
-    let turned = image[at + k + 16] <= 1;
-    let source = storage::source_at(image, at, k);
-    let anchor = storage::anchor_at(image, at, k);
-    let own = ground::same(source as usize, l.number);
-    ground::both(
-        ground::both(letters, turned),
-        ground::both(own, is_end(h, l, anchor)),
-    )
-}
-
-fn is_row_record(image: &[u8], h: image::Header, l: image::Lane, i: usize) -> bool
-    requires { Stands image.now h l × (i < l.count) }
-    ensures { result ≡ (get_or (row_marks h image.now l.number) i true && from l.number (get_or (ports_of h image.now l.number) i no_port)) }
-{
-    let at = storage::offset(image, h.lane_ports_at, h.ports, h.k, l.start + i);
-    is_own_record(image, h, l, at)
-}
-
-fn is_row_fine(image: &[u8], h: image::Header, l: image::Lane) -> bool
-    requires { Stands image.now h l }
-    ensures { result ≡ row_fine h image.now l.number }
-{
-    let n = l.count;
-    if n == 0 {
-        return true;
-    }
-    let last = n - 1;
-    let mut i = 0;
-    while i < last {
-        let fine = is_row_record(image, h, l, i);
-        if ground::both(fine, image::is_lane_port_below(image, h, l, i)) {
-            i += 1;
-        } else {
-            return false;
-        }
-    }
-    is_row_record(image, h, l, i)
-}
-
-fn is_fine_at(
-    image: &[u8],
-    h: image::Header,
-    starts: &[usize; image::Header::LANES],
-    lane: usize,
-) -> bool
-    requires { Started image.now h starts.now × (lane < h.lanes) }
-    ensures { result ≡ row_fine h image.now (get_or (numbers_from 0 h.lanes) lane 0) }
-{
-    let l = image::lane_of(image, h, starts, lane);
-    is_row_fine(image, h, l)
-}
-
-// What 6 and 7 ask of the lanes' lists.
-pub fn are_lanes_fine(
-    image: &[u8],
-    h: image::Header,
-    starts: &[usize; image::Header::LANES],
-) -> bool
-    requires { Started image.now h starts.now }
-    ensures { result ≡ (sound_records h image.now h.lane_ports_at && own_rows h image.now && lanes_rising h image.now) }
-{
-    let n = h.lanes;
-    let mut i = 0;
-    while i < n {
-        if is_fine_at(image, h, starts, i) {
-            i += 1;
-        } else {
-            return false;
-        }
-    }
-    true
-}
-
 // ---- 8
+
+// Where a place would stand in a lane's list if the ports stood evenly on the lane.
+fn evenly(l: image::Lane, anchor: u64) -> usize
+    requires { l.count ≤ most_ports }
+{
+    let len = l.len as usize;
+    let at = anchor as usize;
+    if image::Header::LENGTH < len {
+        return 0;
+    }
+    if at < len {
+        at * l.count / len
+    } else {
+        l.count
+    }
+}
+
+fn doubled(step: usize) -> usize {
+    if step < image::Header::PORTS {
+        step * 2 + 1
+    } else {
+        step
+    }
+}
+
+fn least(a: usize, b: usize) -> usize
+    ensures { (result ≤ a) × (result ≤ b) }
+{
+    if a < b { a } else { b }
+}
+
+// Where to look next between lo and hi: near a place, and from there by steps of at most half of what is left.
+fn probe(lo: usize, hi: usize, near: usize, step: usize) -> usize
+    requires { lo < hi }
+    ensures { (lo ≤ result) × (result < hi) }
+{
+    let far = least(step, (hi - lo) / 2);
+    if near < lo {
+        return lo + far;
+    }
+    if near < hi { near } else { hi - 1 - far }
+}
 
 // How many ports of a lane stand before a place of its list: a search from where it would stand evenly, by growing steps, then by halves.
 pub fn places_before(
@@ -404,13 +353,13 @@ pub fn places_before(
     requires { Stands image.now h l × (lane_rising (ports_of h image.now l.number) ≡ true) }
     ensures { result ≡ count (place_before anchor reverse) (ports_of h image.now l.number) }
 {
-    let near = guesses::evenly(l, anchor);
+    let near = evenly(l, anchor);
     let mut step = 0;
     let mut lo = 0;
     let mut hi = l.count;
     while lo < hi {
-        let at = guesses::probe(lo, hi, near, step);
-        step = guesses::doubled(step);
+        let at = probe(lo, hi, near, step);
+        step = doubled(step);
         if image::is_lane_port_before(image, h, l, at, anchor, reverse) {
             lo = at + 1;
         } else {
@@ -433,7 +382,7 @@ fn is_lane_port_here(image: &[u8], h: image::Header, l: image::Lane, i: usize, a
 }
 
 // Whether the global record at a byte offset is in its lane's list: where it would stand evenly, or else where a search finds its place.
-pub fn is_listed(
+fn is_listed(
     image: &[u8],
     h: image::Header,
     starts: &[usize; image::Header::LANES],
@@ -447,7 +396,7 @@ pub fn is_listed(
     let anchor = storage::anchor_at(image, at, k);
     let reverse = storage::reverse_at(image, at, k);
     let l = image::lane_of(image, h, starts, source as usize);
-    let near = guesses::evenly(l, anchor);
+    let near = evenly(l, anchor);
     if is_lane_port_here(image, h, l, near, at) {
         return true;
     }

@@ -1,8 +1,8 @@
 // The budgeted walk over donor switches (search.rs): what it is given, and what it answers.
 
+// The budgets: four whole numbers and the tie width.
 #![tactic(auto)]
 
-// The budgets: four whole numbers and the tie width.
 #[repr(C)]
 #[derive(Clone, Copy)]
 pub struct SearchBudget {

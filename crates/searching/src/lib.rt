@@ -525,7 +525,7 @@ fn search_in(
 ) -> search::SearchReply
     requires { Accepted image.now h × (v ≡ slot_width (panel_of image.now) b) × Framable b frames.old × Lent b v kept.old kept_scores.old }
     ensures value { result ≡ answer_in (panel_of image.now) b scores.now }
-    ensures rooms_after { ◌≡◌ {A = Rooms} (record { frames = frames.exit.now; kept = kept.new; scores = kept_scores.new }) (rooms_in (panel_of image.now) b scores.now (record { frames = frames.entry.now; kept = kept.old; scores = kept_scores.old })) }
+    ensures fact { ◌≡◌ {A = Rooms} (record { frames = frames.exit.now; kept = kept.new; scores = kept_scores.new }) (rooms_in (panel_of image.now) b scores.now (record { frames = frames.entry.now; kept = kept.old; scores = kept_scores.old })) }
 {
     let optima = b.max_optima as usize;
     let starts = image::lane_starts(image, h);
@@ -568,7 +568,7 @@ fn search_panel(
 ) -> search::SearchReply
     requires { Accepted image.now h }
     ensures value { result ≡ answer_on (panel_of image.now) b scores.now (record { frames = frames.entry.now; kept = kept.old; scores = kept_scores.old }) }
-    ensures rooms_after { ◌≡◌ {A = Rooms} (record { frames = frames.exit.now; kept = kept.new; scores = kept_scores.new }) (rooms_on (panel_of image.now) b scores.now (record { frames = frames.entry.now; kept = kept.old; scores = kept_scores.old })) }
+    ensures fact { ◌≡◌ {A = Rooms} (record { frames = frames.exit.now; kept = kept.new; scores = kept_scores.new }) (rooms_on (panel_of image.now) b scores.now (record { frames = frames.entry.now; kept = kept.old; scores = kept_scores.old })) }
 {
     let budgets = budget::budget_refusal(b);
     if 0 < budgets {
@@ -592,7 +592,7 @@ pub fn search(
     kept_scores: &mut [f64],
 ) -> search::SearchReply
     ensures value { result ≡ search_answer image.now b scores.now (record { frames = frames.entry.now; kept = kept.old; scores = kept_scores.old }) }
-    ensures rooms_after { ◌≡◌ {A = Rooms} (record { frames = frames.exit.now; kept = kept.new; scores = kept_scores.new }) (search_rooms image.now b scores.now (record { frames = frames.entry.now; kept = kept.old; scores = kept_scores.old })) }
+    ensures fact { ◌≡◌ {A = Rooms} (record { frames = frames.exit.now; kept = kept.new; scores = kept_scores.new }) (search_rooms image.now b scores.now (record { frames = frames.entry.now; kept = kept.old; scores = kept_scores.old })) }
 {
     match graph::check_panel(image) {
         image::Opened::Good(h) => search_panel(image, h, b, scores, frames, kept, kept_scores),

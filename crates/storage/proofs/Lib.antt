@@ -1,4 +1,3 @@
 pub mod Laws
 pub mod OrderLaws
 pub mod BucketLaws
-pub mod CopyLaws

@@ -93,7 +93,7 @@ module _ (xs : List ℕ) (at : ℕ) (w : List ℕ) (i : ℕ) (room : at + length
 
 -- ---- eight letters at a time, as numbers
 
-pub lead_less : (n a c : ℕ) (xs ys : List ℕ) (at bt : ℕ) → BytesAt n xs at → a < c → be_at n a xs at < be_at n c ys bt
+lead_less : (n a c : ℕ) (xs ys : List ℕ) (at bt : ℕ) → BytesAt n xs at → a < c → be_at n a xs at < be_at n c ys bt
 lead_less zero a c xs ys at bt h l = l
 lead_less (suc n) a c xs ys at bt h l = lead_less n (256 * a + get_or xs at 0) (256 * c + get_or ys bt 0) xs ys (at + 1) (bt + 1) h.1 (let q = h.0 in omega arith)
 

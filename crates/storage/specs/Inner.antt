@@ -1,5 +1,5 @@
 -- What inner functions promise each other; nothing here is part of a public promise.
-use Rattle.std.specs.Prelude.{ℕ, zero, suc, ◌+◌, ◌*◌, ◌≤◌, ◌<◌, ◌≡◌, Bool, true, List, length, drop, get_or}
+use Rattle.std.specs.Prelude.{ℕ, zero, suc, ◌+◌, ◌*◌, ◌≤◌, ◌<◌, ◌≡◌, true, List, length, drop, get_or}
 use Rattle.ground.specs.Lists.{each, rising}
 use Rattle.storage.specs.Records.{port_of, record_size, longest_word}
 use Rattle.storage.specs.Orders.{and_then, num_order, flag_order, word_order, record_lt}
@@ -55,11 +55,3 @@ pub record Sorted (s : List ℕ) (base n k : ℕ) : Type 0 where
 pub record Offset (s : List ℕ) (base n k i at : ℕ) : Type 0 where
   pub place : at ≡ base + i * record_size k
   pub room : at + record_size k ≤ length s
-
--- the first n bytes at two places are the same
-pub record Copied (s : List ℕ) (a b n : ℕ) : Type 0 where
-  pub bytes : (i : ℕ) → i < n → get_or s (a + i) 0 ≡ get_or s (b + i) 0
-
--- they are where a test has passed
-pub record CopyIf (s : List ℕ) (a b n : ℕ) (r : Bool) : Type 0 where
-  pub passed : r ≡ true → Copied s a b n

@@ -6,7 +6,7 @@ ghost use Rattle.ground.specs.Lists.{each, count};
 ghost use Rattle.storage.specs.Bytes.{number};
 ghost use Rattle.storage.specs.Records.{padded, port_of, cut_offset, cut_of, same_turn, stands_at, no_port, record_size, longest_word};
 ghost use Rattle.storage.specs.Orders.{and_then, num_order, flag_order, word_order, port_order, is_less, is_equal, record_lt, same_port, place_lt, place_before, word_below, word_up_to, bucket_of};
-ghost use Rattle.storage.specs.Inner.{le_at, Lead, Widened, SameUpTo, rest_order, Records, Sorted, Offset, CopyIf};
+ghost use Rattle.storage.specs.Inner.{le_at, Lead, Widened, SameUpTo, rest_order, Records, Sorted, Offset};
 
 // ---- words
 
@@ -503,30 +503,4 @@ pub fn is_same_at(image: &[u8], a: usize, b: usize, k: usize) -> bool
     ensures { result ≡ same_port (port_of k (drop a image.now)) (port_of k (drop b image.now)) }
 {
     is_equal(compare_at(image, a, b, k))
-}
-
-// ---- bytes compared where they stand
-
-fn is_word_copy(image: &[u8], a: usize, b: usize) -> bool
-    requires { (a + 8 ≤ length image.now) × (b + 8 ≤ length image.now) }
-    ensures { CopyIf image.now a b 8 result }
-{
-    lead_at(image, a) == lead_at(image, b)
-}
-
-// Whether the n bytes at two offsets are the same, eight at a time; the last eight may be read twice.
-pub fn is_copy(image: &[u8], a: usize, b: usize, n: usize) -> bool
-    requires { (a + n ≤ length image.now) × (b + n ≤ length image.now) × (8 ≤ n) }
-    ensures { CopyIf image.now a b n result }
-{
-    let last = n - 8;
-    let mut i = 0;
-    while i < last {
-        if is_word_copy(image, a + i, b + i) {
-            i += 8;
-        } else {
-            return false;
-        }
-    }
-    is_word_copy(image, a + last, b + last)
 }

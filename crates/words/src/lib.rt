@@ -94,7 +94,7 @@ pub fn lesser(a: u64, b: u64) -> u64
     if a < b { a } else { b }
 }
 
-pub fn greater(a: u64, b: u64) -> u64
+fn greater(a: u64, b: u64) -> u64
     ensures { result ≡ max a b }
 {
     if a < b { b } else { a }

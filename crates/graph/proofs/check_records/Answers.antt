@@ -1,5 +1,5 @@
 use borrow.Author.Rules.{rules}
-use Rattle.graph.proofs.Laws.{fine_told, good_told, refused_6, refused_8, ordered_told, refused_7}
+use Rattle.graph.proofs.Laws.{good_told, refused_6, refused_8, ordered_told, refused_7}
 use Rattle.graph.proofs.check_records.Goals as goal
 
 pub are_listed-requires : goal.are_listed-requires
@@ -16,6 +16,3 @@ returns-else-are_rising c = search refused_7
 
 pub returns-else-are_sound : goal.returns-else-are_sound
 returns-else-are_sound c = search refused_6
-
-pub returns-then-is_fine : goal.returns-then-is_fine
-returns-then-is_fine c = search fine_told

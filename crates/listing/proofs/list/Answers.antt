@@ -6,7 +6,7 @@ pub list_panel-requires : goal.list_panel-requires
 list_panel-requires c = search accepted_told
 
 pub returns-in-Good : goal.returns-in-Good
-returns-in-Good c = record { value = search list-answer; rooms_after = search list-rooms }
+returns-in-Good c = record { value = search list-answer; fact = search list-rooms }
 
 pub returns-in-Refused : goal.returns-in-Refused
-returns-in-Refused c = record { value = search list_refused; rooms_after = search list_untouched }
+returns-in-Refused c = record { value = search list_refused; fact = search list_untouched }

@@ -1,6 +1,5 @@
 use borrow.Author.Rules.{rules}
-use Rattle.guesses.proofs.Laws.{lane_few}
-use Rattle.panel.proofs.Laws.{listed_near, listed_told, row_rises}
+use Rattle.panel.proofs.Laws.{lane_few, listed_near, listed_told, row_rises}
 use Rattle.panel.proofs.is_listed.Goals as goal
 
 pub evenly-near-requires : goal.evenly-near-requires

@@ -1,5 +1,4 @@
-use Rattle.guesses.proofs.Laws.{lane_few}
-use Rattle.panel.proofs.Laws.{places_down, places_up}
+use Rattle.panel.proofs.Laws.{lane_few, places_down, places_up}
 use Rattle.image.proofs.Laws.{row_length}
 use Rattle.ground.proofs.ListLaws.{cut_done, cut_start}
 use Rattle.panel.proofs.places_before.Goals as goal

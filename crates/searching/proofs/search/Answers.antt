@@ -6,7 +6,7 @@ pub search_panel-requires : goal.search_panel-requires
 search_panel-requires c = search accepted_told
 
 pub returns-in-Good : goal.returns-in-Good
-returns-in-Good c = record { value = search-answer _ _ _ _ _ c.check_panel.ensures _ c.in-Good.is _ c.search_panel.ensures.value; rooms_after = search-rooms _ _ _ _ _ c.check_panel.ensures _ c.in-Good.is _ c.search_panel.ensures.rooms_after }
+returns-in-Good c = record { value = search-answer _ _ _ _ _ c.check_panel.ensures _ c.in-Good.is _ c.search_panel.ensures.value; fact = search-rooms _ _ _ _ _ c.check_panel.ensures _ c.in-Good.is _ c.search_panel.ensures.fact }
 
 pub returns-in-Refused : goal.returns-in-Refused
-returns-in-Refused c = record { value = panel_answer _ _ _ _ _ c.check_panel.ensures _ c.in-Refused.is _ c.refused.ensures; rooms_after = panel_rooms _ _ _ _ _ c.check_panel.ensures _ c.in-Refused.is }
+returns-in-Refused c = record { value = panel_answer _ _ _ _ _ c.check_panel.ensures _ c.in-Refused.is _ c.refused.ensures; fact = panel_rooms _ _ _ _ _ c.check_panel.ensures _ c.in-Refused.is }

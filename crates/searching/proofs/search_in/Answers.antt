@@ -29,7 +29,7 @@ pub shape_of-kept_scores-then-f-gt0 : goal.shape_of-kept_scores-then-f-gt0
 shape_of-kept_scores-then-f-gt0 c = let a = c.begin.ensures.left.longx in let b = c.begin.ensures.left.longs in let d = c.search_families-f.ensures.left.longx in let e = c.search_families-f.ensures.left.longs in let f = c.search_families-f.ensures.frames.long in let g = c.begin-then-f-gt0.ensures.left.longx in let h = c.begin-then-f-gt0.ensures.left.longs in search rules
 
 pub returns-then-f-gt0 : goal.returns-then-f-gt0
-returns-then-f-gt0 c = record { value = unfound_answer c.requires.1 c.requires.2 c.begin.ensures c.search_families-f.ensures c.if-f-gt0.true _ c.refused.ensures; rooms_after = unfound_rooms c.requires.1 c.requires.2 c.begin.ensures c.search_families-f.ensures c.if-f-gt0.true _ c.leave_frames.ensures c.begin-then-f-gt0.ensures }
+returns-then-f-gt0 c = record { value = unfound_answer c.requires.1 c.requires.2 c.begin.ensures c.search_families-f.ensures c.if-f-gt0.true _ c.refused.ensures; fact = unfound_rooms c.requires.1 c.requires.2 c.begin.ensures c.search_families-f.ensures c.if-f-gt0.true _ c.leave_frames.ensures c.begin-then-f-gt0.ensures }
 
 pub leave_frames-requires-2 : goal.leave_frames-requires-2
 leave_frames-requires-2 c = (c.requires.2.few, found_deep c.requires.1 c.requires.2 c.begin.ensures c.search_families-f.ensures c.if-f-gt0.false, found_room c.requires.1 c.requires.2 c.begin.ensures c.search_families-f.ensures)
@@ -44,4 +44,4 @@ pub shape_of-kept_scores : goal.shape_of-kept_scores
 shape_of-kept_scores c = let a = c.begin.ensures.left.longx in let b = c.begin.ensures.left.longs in let d = c.search_families-f.ensures.left.longx in let e = c.search_families-f.ensures.left.longs in let f = c.search_families-f.ensures.frames.long in search rules
 
 pub returns : goal.returns
-returns c = record { value = found_answer c.requires.1 c.requires.2 c.begin.ensures c.search_families-f.ensures c.if-f-gt0.false _ c.reply.ensures; rooms_after = found_rooms c.requires.1 c.requires.2 c.begin.ensures c.search_families-f.ensures c.if-f-gt0.false _ c.leave_frames-2.ensures }
+returns c = record { value = found_answer c.requires.1 c.requires.2 c.begin.ensures c.search_families-f.ensures c.if-f-gt0.false _ c.reply.ensures; fact = found_rooms c.requires.1 c.requires.2 c.begin.ensures c.search_families-f.ensures c.if-f-gt0.false _ c.leave_frames-2.ensures }
