@@ -21,7 +21,7 @@ class Source:
     """A file of Rattle: its ghost imports are held to its clauses, its other ones to its code. What leads to laws
     are its clauses, and what its tactics are given."""
 
-    HEAD = re.compile(r'\bfn\s+\w+[^({;]*\(|\b(?:requires|ensures)\b\s*\*?\s*\w*\s*\{|\bghost\s+(\w+)\s*:\s*\{')
+    HEAD = re.compile(r'\bfn\s+\w+[^({;]*\(|\b(?:requires|ensures)\b\s*\*?\s*\w*\s*\{|\bghost\s+(\w+)\s*[:=]\s*\{')
     TACTIC = re.compile(r'#!?\[\s*tactic\b[^\]]*\]')
 
     def __init__(self, text, crate):

@@ -1,10 +1,10 @@
 -- Laws of one unit on a stored frame.
-use Prim.Native.Nat.{ℕ, suc, ◌+◌, ◌-◌, ◌≤◌, ◌<◌, min, max}
-use native.Mathlib.Nat.{min-eq_left, min-eq_right, max-eq_left, max-eq_right}
+use Prim.Native.Nat.{ℕ, suc, ◌+◌, ◌-◌, ◌≤◌, ◌<◌}
 use native.Mathlib.Numerals.{add-one}
 use native.Mathlib.Omega.{arith}
 use mathlib.Core.Path.{◌≡◌, refl, sym, ap, ◌∙◌}
-use mathlib.Core.Bool.{Bool, true, false, not, ◌&&◌, ◌||◌}
+use mathlib.Core.Bool.{Bool, true, false, not, ◌&&◌, ◌||◌, beq}
+use Rattle.std.proofs.lemmas.Bool.{not-false, not-true}
 use mathlib.Core.List.{List, [], ◌∷◌, ◌++◌}
 use mathlib.Core.Logic.{◌⊎◌, inl, inr}
 use mir.Val.{Fits}
@@ -34,29 +34,15 @@ use Rattle.evaluate.specs.declared.Segment.{Segment}
 use Rattle.evaluate.specs.Segments.{clear, flat, overlap}
 use Rattle.search.specs.Walk.{Frame, pass, doing, first_port, enter, piece_to, on_path, closes, terminal_task, member_task, same_place, reach, behind, onward, spent, port_unit, hub_unit, unit_of}
 use Rattle.frames.specs.declared.Stored.{Stored}
-use Rattle.frames.specs.Inner.{Path, piece_from, path_to, path_at, pieces, place_with, frame_with, stored_at, put, Alike}
+use Rattle.frames.specs.Inner.{Path, piece_from, path_to, path_at, pieces, place_with, frame_with, Alike}
 use Rattle.frames.proofs.Laws.{path_pieces}
 use Rattle.landings.specs.declared.Landing.{Landing}
-use Rattle.landings.specs.Inner.{landing_of, same_landing, reached}
-use Rattle.landings.proofs.Laws.{anchors}
+use Rattle.landings.specs.Inner.{landing_of, reached}
+use Rattle.landings.proofs.Laws.{anchors, turns_same, landings_same}
 use Rattle.advance.specs.declared.Action.{Action}
 use Rattle.advance.specs.declared.Action.TheVariants.{Leave, Pass, Down, Give}
 use Rattle.advance.specs.declared.Turn.{Turn}
-use Rattle.advance.specs.Inner.{bare, moved_to, child_of, entered, leaving, Sound, Child, Flagged, task_of, act_of, closes_by, stays, closing_task, Ends, Meets, On, Turned, Ready, Moved, leads_on, Blocked, Past}
-
--- ---- pieces
-
-pub piece_before : (f : Stored) (to : ℕ) → f.cut < to → ◌≡◌ {A = Segment} (record { source = f.source; start = f.cut; end = to; reverse = f.reverse }) (piece_to (bare f) to)
-piece_before f to l =
-    let a : min f.cut to ≡ f.cut = min-eq_left (omega arith) in
-    let b : max f.cut to ≡ to = max-eq_right (omega arith) in
-    rw (a, b)
-
-pub piece_behind : (f : Stored) (to : ℕ) → to ≤ f.cut → ◌≡◌ {A = Segment} (record { source = f.source; start = to; end = f.cut; reverse = f.reverse }) (piece_to (bare f) to)
-piece_behind f to l =
-    let a : min f.cut to ≡ to = min-eq_right l in
-    let b : max f.cut to ≡ f.cut = max-eq_left l in
-    rw (a, b)
+use Rattle.advance.specs.Inner.{bare, moved_to, child_of, entered, leaving, Sound, Child, Flagged, task_of, act_of, closes_by, stays, closing_task, Ends, Meets, On, Turned, leads_on, Blocked, Past}
 
 -- ---- the panel that the code reads
 
@@ -89,19 +75,6 @@ path_some s h f acc g =
     omega arith
 
 -- ---- closing a route
-
-module _ (target len : ℕ) (f : Stored) (l : List Segment) where
-  pub close_turned : f.source ≡ target → f.reverse ≡ true → false ≡ closes_by target len f l
-  close_turned e r = rw (eq-eqb f.source target e, r)
-
-  pub close_clear : (t : Segment) (b : Bool) → f.source ≡ target → f.reverse ≡ false → f.cut < len → t ≡ piece_to (bare f) len → b ≡ clear t l → b ≡ closes_by target len f l
-  close_clear t b e r lt et q = q ∙ ap (λ (x : Segment). clear x l) et ∙ rw (eq-eqb f.source target e, r, lt-ltb f.cut len lt)
-
-  pub close_past : f.source ≡ target → f.reverse ≡ false → len ≤ f.cut → false ≡ closes_by target len f l
-  close_past e r le = rw (eq-eqb f.source target e, r, le-ltb f.cut len le)
-
-  pub close_other : (f.source ≡ target → ⊥) → false ≡ closes_by target len f l
-  close_other n = rw (ne_eqb f.source target n)
 
 -- a frame is not of the next slot
 next_slot : (n : ℕ) → eqb n (n + 1) ≡ false
@@ -296,10 +269,10 @@ meets_blocked s h family f flag off =
 
 module _ (s : List ℕ) (h : Header) (family : Family) (l : Lane) (f : Stored) (flag b : Bool) (i : ℕ) (out to : Landing) (acc : Accepted s h) (st : Stands s h l) (here : l.number ≡ f.source)
     (so : Sound s h family.count f) (lt : f.hub_next < f.hub_end) (ei : i ≡ behind f.reverse f.next) (eo : out ≡ landing_of h.k (get_or (ports_of h s l.number) i no_port))
-    (eto : to ≡ landing_of h.k (get_or (hub h s) f.hub_next no_port)) (eb : b ≡ same_landing to out) where
+    (eto : to ≡ landing_of h.k (get_or (hub h s) f.hub_next no_port)) (eb : b ≡ (eqb to.source out.source && (eqb to.cut out.cut && beq to.reverse out.reverse))) where
   place_told : same_place (panel_of s).k (get_or (panel_of s).hub f.hub_next no_port) (get_or (lane_at (panel_of s) f.source).ports (behind f.reverse f.next) no_port) ≡ b
   unfolding landing_of
-  place_told = rw (panel_k s h acc.counted.framed, panel_hub s h acc.counted.framed, ports-here s h l f acc st here, ← ei) (sym (eb ∙ rw (eto, eo)))
+  place_told = rw (panel_k s h acc.counted.framed, panel_hub s h acc.counted.framed, ports-here s h l f acc st here, ← ei) (sym (eb ∙ landings_same to out ∙ rw (eto, eo)))
 
   pub meets_itself : b ≡ true → Meets s h family f flag Pass
   unfolding member_task
@@ -499,21 +472,6 @@ module _ (s : List ℕ) (h : Header) (family : Family) (l : Lane) (xs : List ℕ
 
 -- ---- on the stack
 
-pub on_of : (s : List ℕ) (h : Header) (starts : List ℕ) (family : Family) (l : Lane) (xs : List ℕ) (top : ℕ) (f : Stored) (flag : Bool) → Ready s h starts family xs top flag → f ≡ stored_at xs top → Stands s h l
-    → l.number ≡ f.source → On s h family l xs top f
-on_of s h starts family l xs top f flag r e st here =
-    record { accepted = r.accepted; groups = r.groups; stands = st; here = here; sound = rw e r.sound; room = r.room }
-
-pub flag_of : (s : List ℕ) (h : Header) (starts : List ℕ) (family : Family) (xs : List ℕ) (top : ℕ) (f : Stored) (flag : Bool) → Ready s h starts family xs top flag → f ≡ stored_at xs top
-    → Flagged (panel_of s) (frame_with (path_at xs top) f) flag
-flag_of s h starts family xs top f flag r e = rw e r.flagged
-
-pub lane_of_top : (s : List ℕ) (h : Header) (starts : List ℕ) (family : Family) (xs : List ℕ) (top : ℕ) (f : Stored) (flag : Bool) → Ready s h starts family xs top flag → f ≡ stored_at xs top → f.source < h.lanes
-lane_of_top s h starts family xs top f flag r e = rw e r.sound.lane
-
-pub moved_of : (s : List ℕ) (h : Header) (family : Family) (xs ys : List ℕ) (top : ℕ) (f : Stored) (t : Turn) → f ≡ stored_at xs top → Turned s h family (path_at xs top) f t → ys ≡ put xs top t.frame → Moved s h family xs ys top t
-moved_of s h family xs ys top f t e u q = record { turned = rw (← e) u; room = q }
-
 -- ---- entering a place
 
 module _ (s : List ℕ) (h : Header) (l : Lane) (f : Stored) (n : ℕ) (acc : Accepted s h) (st : Stands s h l) (here : l.number ≡ f.source) (en : n ≡ count (reached h.k f.reverse f.cut) (ports_of h s l.number)) where
@@ -579,54 +537,32 @@ enter_shut p q a s h n c flag k = shut p (frame_with a (entered q c)) flag k.clo
 
 -- ---- small functions
 
-pub onward_back : (f : Stored) → f.reverse ≡ true → f.next - 1 ≡ onward f.reverse f.next
-onward_back f e = rw e
-
-pub onward_on : (f : Stored) → f.reverse ≡ false → f.next + 1 ≡ onward f.reverse f.next
-onward_on f e = rw (e, add-one)
-
-pub behind_same : (f : Stored) → f.reverse ≡ true → f.next ≡ behind f.reverse f.next
-behind_same f e = rw e
-
-pub behind_two : (f : Stored) → f.reverse ≡ false → f.next - 2 ≡ behind f.reverse f.next
-behind_two f e = rw e
-
-pub behind_low : (s : List ℕ) (h : Header) (n i : ℕ) (l : Lane) (f : Stored) → Sound s h n f → Accepted s h → Stands s h l → l.number ≡ f.source → f.hub_next < f.hub_end → i ≡ behind f.reverse f.next → i < l.count
-behind_low s h n i l f so acc st here lt e = let c = count_here s h l f acc st here in let o = so.opened (omega arith) in omega arith
-
-pub behind_ok : (s : List ℕ) (h : Header) (n : ℕ) (f : Stored) → Sound s h n f → f.hub_next < f.hub_end → (f.reverse ≡ false → 2 ≤ f.next)
-behind_ok s h n f so lt = so.second (omega arith)
-
-pub two_below : (f : Stored) → (f.reverse ≡ false → 2 ≤ f.next) → f.reverse ≡ false → 2 ≤ f.next
-two_below f h e = h e
-
 -- ---- a frame whose ports ahead are all blocked
 
-module _ (k : ℕ) (f : Stored) (ps : List Port) (i j : ℕ) (out : Landing) (b : Bool) (eo : out ≡ landing_of k (get_or ps i no_port)) (ei : i ≡ j) (eb : b ≡ same_turn out.reverse f.reverse) where
-  same_told : same_turn (get_or ps j no_port).reverse f.reverse ≡ b
+module _ (k : ℕ) (f : Stored) (ps : List Port) (i j : ℕ) (out : Landing) (eo : out ≡ landing_of k (get_or ps i no_port)) (ei : i ≡ j) where
+  same_told : same_turn (get_or ps j no_port).reverse f.reverse ≡ beq out.reverse f.reverse
   unfolding landing_of
-  same_told = sym (eb ∙ rw (eo, ei))
+  same_told = rw (turns_same out.reverse f.reverse, eo, ei)
 
-  pub leads_reverse : b ≡ true → f.reverse ≡ true → leb out.cut f.cut ≡ leads_on k f (get_or ps j no_port)
+  pub leads_reverse : not (beq out.reverse f.reverse) ≡ false → f.reverse ≡ true → leb out.cut f.cut ≡ leads_on k f (get_or ps j no_port)
   unfolding landing_of
-  leads_reverse it e = rw (same_told, it, e, eo, ei)
+  leads_reverse it e = rw (same_told, not-false (beq out.reverse f.reverse) it, e, eo, ei)
 
-  pub leads_forward : b ≡ true → f.reverse ≡ false → leb f.cut out.cut ≡ leads_on k f (get_or ps j no_port)
+  pub leads_forward : not (beq out.reverse f.reverse) ≡ false → f.reverse ≡ false → leb f.cut out.cut ≡ leads_on k f (get_or ps j no_port)
   unfolding landing_of
-  leads_forward it e = rw (same_told, it, e, eo, ei)
+  leads_forward it e = rw (same_told, not-false (beq out.reverse f.reverse) it, e, eo, ei)
 
-  pub leads_not : b ≡ false → false ≡ leads_on k f (get_or ps j no_port)
-  leads_not not_so = rw (same_told, not_so)
+  pub leads_not : not (beq out.reverse f.reverse) ≡ true → false ≡ leads_on k f (get_or ps j no_port)
+  leads_not not_so = rw (same_told, not-true (beq out.reverse f.reverse) not_so)
 
-module _ (s : List ℕ) (h : Header) (l : Lane) (f g : Stored) (q : Landing) (next : ℕ) (b : Bool) (eq : q ≡ landing_of h.k (get_or (ports_of h s l.number) (f.next - 1) no_port)) (en : next ≡ onward f.reverse f.next)
-    (eb : b ≡ same_turn q.reverse f.reverse) where
-  pub past_opens : (m : Members) → b ≡ true → m ≡ bucket_of (get_or (ports_of h s l.number) (f.next - 1) no_port).word (panel_of s).hub → g ≡ moved_to f next m.lo m.hi → Past s h l f g
+module _ (s : List ℕ) (h : Header) (l : Lane) (f g : Stored) (q : Landing) (next : ℕ) (eq : q ≡ landing_of h.k (get_or (ports_of h s l.number) (f.next - 1) no_port)) (en : next ≡ onward f.reverse f.next) where
+  pub past_opens : (m : Members) → beq q.reverse f.reverse ≡ true → m ≡ bucket_of (get_or (ports_of h s l.number) (f.next - 1) no_port).word (panel_of s).hub → g ≡ moved_to f next m.lo m.hi → Past s h l f g
   unfolding landing_of
-  past_opens m it em eg = record { how = inl (sym (eb ∙ rw eq) ∙ it, (m, (em, rw (← en) eg))) }
+  past_opens m it em eg = record { how = inl (sym (turns_same q.reverse f.reverse ∙ rw eq) ∙ it, (m, (em, rw (← en) eg))) }
 
-  pub past_other : b ≡ false → g ≡ moved_to f next 0 0 → Past s h l f g
+  pub past_other : beq q.reverse f.reverse ≡ false → g ≡ moved_to f next 0 0 → Past s h l f g
   unfolding landing_of
-  past_other not_so eg = record { how = inr (sym (eb ∙ rw eq) ∙ not_so, rw (← en) eg) }
+  past_other not_so eg = record { how = inr (sym (turns_same q.reverse f.reverse ∙ rw eq) ∙ not_so, rw (← en) eg) }
 
 pub next_small : (s : List ℕ) (h : Header) (l : Lane) (n : ℕ) → Stands s h l → n ≤ l.count → n ≤ 4194304
 next_small s h l n st le = let w = lane_within s h l st in omega (arith, st.counted.framed.few_ports)

@@ -24,11 +24,8 @@ pub fn enter(image: &[u8], h: image::Header, starts: &[usize; 4096], f: Stored) 
 {
     let l = image::lane_of(image, h, starts, f.source as usize);
     let n = landings::ports_reached(image, h, l, f.cut, f.reverse) as u64;
-    if f.reverse {
-        Stored { next: n, ..f }
-    } else {
-        Stored { next: n + 1, ..f }
-    }
+    let next = if f.reverse { n } else { n + 1 };
+    Stored { next, ..f }
 }
 
 // What a unit does.
@@ -53,20 +50,11 @@ pub struct Turn {
 fn piece_to(f: Stored, to: u64) -> Segment
     ensures { result ≡ piece_to (bare f) to }
 {
-    if f.cut < to {
-        Segment {
-            source: f.source,
-            start: f.cut,
-            end: to,
-            reverse: f.reverse,
-        }
-    } else {
-        Segment {
-            source: f.source,
-            start: to,
-            end: f.cut,
-            reverse: f.reverse,
-        }
+    Segment {
+        source: f.source,
+        start: f.cut.min(to),
+        end: f.cut.max(to),
+        reverse: f.reverse,
     }
 }
 
@@ -107,18 +95,10 @@ fn closes(target: usize, len: u64, frames: &[u64], top: usize, f: Stored) -> boo
     requires { (top + 1) * frame_width ≤ length frames.now }
     ensures { result ≡ closes_by target len f (pieces frames.now top) }
 {
-    if f.source as usize == target {
-        if f.reverse {
-            return false;
-        }
-        if f.cut < len {
-            frames::is_clear(frames, top, piece_to(f, len))
-        } else {
-            false
-        }
-    } else {
-        false
-    }
+    f.source as usize == target
+        && !f.reverse
+        && f.cut < len
+        && frames::is_clear(frames, top, piece_to(f, len))
 }
 
 // The last slot's route is given; another's leads to the next slot.
@@ -155,21 +135,16 @@ pub fn terminal_unit(
 {
     let target = image::family_path(image, h, family, f.slot as usize);
     let frame = moved(f, f.next, f.hub_next, f.hub_end);
-    if closes(target, l.len, frames, top, f) {
-        let action = end_route(image, h, family, f, l.len);
-        Turn {
-            action,
-            frame,
-            taken: 0,
-            clear: true,
-        }
+    let action = if closes(target, l.len, frames, top, f) {
+        end_route(image, h, family, f, l.len)
     } else {
-        Turn {
-            action: Action::Pass,
-            frame,
-            taken: 0,
-            clear: true,
-        }
+        Action::Pass
+    };
+    Turn {
+        action,
+        frame,
+        taken: 0,
+        clear: true,
     }
 }
 
@@ -197,16 +172,15 @@ pub fn meet(
     requires { Accepted image.now h × Stands image.now h l × (l.number ≡ f.source) × Sound image.now h family.count f × (f.hub_next < f.hub_end) }
     ensures { Meets image.now h family f clear result }
 {
-    if clear {
-        let out = landings::lane_landing(image, h, l, behind_next(f));
-        let to = landings::hub_landing(image, h, f.hub_next as usize);
-        if landings::is_same_landing(to, out) {
-            return Action::Pass;
-        }
-        Action::Down(child(f.slot, to, piece_to(f, out.cut)))
-    } else {
-        Action::Pass
+    if !clear {
+        return Action::Pass;
     }
+    let out = landings::lane_landing(image, h, l, behind_next(f));
+    let to = landings::hub_landing(image, h, f.hub_next as usize);
+    if to == out {
+        return Action::Pass;
+    }
+    Action::Down(child(f.slot, to, piece_to(f, out.cut)))
 }
 
 // A member is taken, or the used-up hub is closed.
@@ -265,11 +239,10 @@ pub fn past_next(
     ensures past { Past image.now h l f result }
     ensures known { Known image.now h memo.new }
 {
-    let next = f.next as usize;
-    let i = next - 1;
+    let i = f.next as usize - 1;
     let q = landings::lane_landing(image, h, l, i);
     let on = go_onward(f);
-    if landings::is_same_turn(q.reverse, f.reverse) {
+    if q.reverse == f.reverse {
         let m = landings::port_bucket(image, h, memo, l, i);
         moved(f, on, m.lo as u64, m.hi as u64)
     } else {
@@ -301,8 +274,7 @@ pub fn pass_port(
             clear: true,
         };
     }
-    let next = f.next as usize;
-    let q = landings::lane_landing(image, h, l, next - 1);
+    let q = landings::lane_landing(image, h, l, f.next as usize - 1);
     let clear = frames::is_clear(frames, top, piece_to(f, q.cut));
     Turn {
         action: Action::Pass,
@@ -338,10 +310,7 @@ fn port_unit(
     ensures turned { Turned image.now h family (path_at frames.now top) f result }
     ensures known { Known image.now h memo.new }
 {
-    if f.next == 0 {
-        return leave(f);
-    }
-    if l.count < f.next as usize {
+    if f.next == 0 || l.count < f.next as usize {
         return leave(f);
     }
     pass_port(image, h, memo, family, l, frames, top, f)
@@ -405,13 +374,12 @@ pub fn leads_on(image: &[u8], h: image::Header, l: image::Lane, f: Stored) -> bo
     ensures { result ≡ leads_on h.k f (get_or (ports_of h image.now l.number) (behind f.reverse f.next) no_port) }
 {
     let out = landings::lane_landing(image, h, l, behind_next(f));
-    if landings::is_same_turn(out.reverse, f.reverse) {
-        if f.reverse {
-            out.cut <= f.cut
-        } else {
-            f.cut <= out.cut
-        }
+    if out.reverse != f.reverse {
+        return false;
+    }
+    if f.reverse {
+        out.cut <= f.cut
     } else {
-        false
+        f.cut <= out.cut
     }
 }

@@ -9,7 +9,7 @@ use lib.ListN.{length}
 use borrow.Author.Tests.{le-leb, lt-leb, leb-true}
 use Rattle.image.specs.Panel.{Panel}
 use Rattle.evaluate.specs.declared.Refusal.{Refusal}
-use Rattle.evaluate.specs.Refusals.{unless, at}
+use Rattle.evaluate.specs.Refusals.{no_refusal, unless, at}
 use Rattle.evaluate.specs.Segments.{Assignment}
 use Rattle.evaluate.specs.Words.{Read, malformed, got, decode}
 use Rattle.evaluate.specs.Check.{assignment_refusal, read_refusal, given_refusal}
@@ -56,5 +56,7 @@ given p ws e = go (leb (length ws) 65536) refl e
         let w = read (decode ws) refl g in
         record { few = leb-true _ _ f; formed = w; none = ap (λ (x : Read Assignment). (read_refusal p x).number) (sym w.said) ∙ g }
 
-pub given_formed : (p : Panel) (ws : List ℕ) (q : Refusal) → q ≡ given_refusal p ws → q.number ≤ 0 → Formed ws
-given_formed p ws q e z = let n : q.number ≡ 0 = omega arith in (given p ws (ap (λ (x : Refusal). x.number) (sym e) ∙ n)).formed
+pub given_formed : (p : Panel) (ws : List ℕ) → no_refusal ≡ given_refusal p ws → Formed ws
+given_formed p ws e = (given p ws (ap (λ (x : Refusal). x.number) (sym e))).formed
+
+pub ruleset given_steps = (formed_told, given_many, given_malformed, given_read)

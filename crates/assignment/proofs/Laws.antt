@@ -1,24 +1,23 @@
 -- Laws of the assignment check: one for each way through the code.
 use Prim.Native.Nat.{ℕ, zero, suc, ◌+◌, ◌≤◌, ◌<◌}
 use native.Mathlib.Omega.{arith}
-use mathlib.Core.Path.{◌≡◌, refl, sym, ap, ◌∙◌, subst}
+use mathlib.Core.Path.{◌≡◌, refl, sym, ap, ◌∙◌}
 use mathlib.Core.Bool.{Bool, true, false}
 use mathlib.Core.List.{List, map}
 use lib.Dec.{eqb}
 use lib.ListN.{length, drop, get_or}
 use lib.Seq.{sets-eq}
-use mir.Val.{Fits}
-use mir.Syntax.{w64}
 use borrow.Author.Tests.{lt-ltb, le-ltb, le-leb, lt-leb, eq-eqb, ne_eqb}
-use Rattle.ground.proofs.ListLaws.{SumTo, sum_to_next, sum_to_fits}
 use Rattle.image.specs.declared.Header.{Header}
 use Rattle.image.specs.declared.Family.{Family}
-use Rattle.image.specs.declared.Opened.{Opened}
-use Rattle.image.specs.declared.Opened.TheVariants.{Good, Refused}
-use Rattle.image.specs.Image.{path_counts, paths_of}
-use Rattle.image.specs.Inner.{Grouped, Groups}
+use Rattle.image.specs.declared.PanelRefusal.{PanelRefusal}
+use Rattle.image.specs.Header.{refusal_number}
+use Rattle.std.specs.declared.result.Result.{Result}
+use Rattle.std.specs.declared.result.Result.TheVariants.{Ok, Err}
+use Rattle.image.specs.Image.{paths_of}
+use Rattle.image.specs.Inner.{Groups}
 use Rattle.image.specs.Panel.{Panel, panel_of, paths_at}
-use Rattle.image.proofs.Laws.{panel_families, families_length, family_length, path_counts_length, few-paths}
+use Rattle.image.proofs.Laws.{panel_families, families_length, family_length}
 use Rattle.panel.specs.Inner.{Accepted}
 use Rattle.graph.specs.Check.{checked, panel_refusal}
 use Rattle.evaluate.specs.declared.Refusal.{Refusal}
@@ -27,24 +26,19 @@ use Rattle.evaluate.specs.Refusals.{no_refusal, unless, at}
 use Rattle.evaluate.specs.Segments.{Assignment, normalize, normal_form, apart, flat}
 use Rattle.evaluate.specs.Words.{encode}
 use Rattle.evaluate.specs.Check.{routes_refusal, overlap_refusal, assignment_refusal, words_refusal, check_refusal, normal_words, check_answer, check_out, given_refusal}
-use Rattle.evaluate.proofs.Native.{checked_none}
+use Rattle.graph.proofs.Laws.{refusal_some}
 use Rattle.words.specs.Inner.{routes_of, assignment_of, Parsed, Formed, NormalPut}
 use Rattle.words.proofs.Writing.{routes_length}
 use Rattle.overlap.proofs.Given.{apart_given, routes_filled}
 use Rattle.assignment.specs.Inner.{family_refusal, Replied}
+use Rattle.assignment.specs.Refusals.{number_of, place_of, reply_of}
+use Rattle.assignment.specs.declared.AssignmentRefusal.{AssignmentRefusal}
+use Rattle.assignment.specs.declared.AssignmentRefusal.TheVariants.{Room, Words, Family as NoFamily, Count, Route, Overlap}
 use Rattle.assignment.proofs.Given.{given_formed}
-
--- ---- the family of a number
-
-module _ (s : List ℕ) (h : Header) (top at i x : ℕ) (g : Grouped s h) (named : top < h.families) (so : SumTo (path_counts h s) top at i) (lt : i < top) (is : x ≡ get_or (path_counts h s) i 0) where
-  pub family_next : SumTo (path_counts h s) top (at + x) (i + 1)
-  family_next = let n = path_counts_length s h in sum_to_next (path_counts h s) top at i x h.families h.paths so lt is (omega arith) n
-
-  pub family_fits : Fits w64 (at + x)
-  family_fits =
-      let n = path_counts_length s h in
-      let few = few-paths s h g.framed in
-      sum_to_fits (path_counts h s) top at i x h.families h.paths so lt is (omega arith) n g.total few
+use Rattle.routes.specs.declared.RefusedRoute.{RefusedRoute}
+use Rattle.routes.specs.Refusals.{number_of as route_number}
+use Rattle.routes.proofs.Laws.{some_number}
+use Rattle.std.proofs.Common.{lit<, Ok, Err}
 
 -- ---- 25 to 31
 
@@ -95,23 +89,25 @@ module _ (s : List ℕ) (h : Header) (a : Assignment) (f : Family) (g : Groups s
     routes_none x z e = e ∙ rw (later, z)
 
 -- and of one that stands in words
-module _ (s : List ℕ) (h : Header) (ws : List ℕ) (f : Family) (g : Groups s h f) (en : f.number ≡ get_or ws 0 0) (ec : f.count ≡ get_or ws 1 0)
-    (r : Refusal) (er : r ≡ routes_refusal (panel_of s) 0 (paths_at (panel_of s) f.number) (routes_of f.count (drop 2 ws))) where
+module _ (s : List ℕ) (h : Header) (ws : List ℕ) (f : Family) (g : Groups s h f) (en : f.number ≡ get_or ws 0 0) (ec : f.count ≡ get_or ws 1 0) where
   long : length (assignment_of ws).routes ≡ f.count
   long = routes_length (get_or ws 1 0) (drop 2 ws) ∙ sym ec
 
-  said : r ≡ routes_refusal (panel_of s) 0 (paths_at (panel_of s) f.number) (assignment_of ws).routes
-  said = er ∙ rw ec
+  said : routes_refusal (panel_of s) 0 (paths_at (panel_of s) f.number) (routes_of f.count (drop 2 ws)) ≡ routes_refusal (panel_of s) 0 (paths_at (panel_of s) f.number) (assignment_of ws).routes
+  said = rw ec
 
-  pub family_refused : 0 < r.number → r ≡ family_refusal (panel_of s) (assignment_of ws)
-  family_refused = routes_refused s h (assignment_of ws) f g en long r said
+  pub family_refused : (e : RefusedRoute) → record { number = route_number e.why; place = e.route } ≡ routes_refusal (panel_of s) 0 (paths_at (panel_of s) f.number) (routes_of f.count (drop 2 ws))
+      → record { number = route_number e.why; place = e.route } ≡ family_refusal (panel_of s) (assignment_of ws)
+  family_refused e er = routes_refused s h (assignment_of ws) f g en long (record { number = route_number e.why; place = e.route }) (er ∙ said) (some_number e.why)
 
-  module _ (none : r.number ≤ 0) (b : Bool) (eb : b ≡ apart (flat (routes_of f.count (drop 2 ws)))) where
-    pub family_overlap : (x : Refusal) → b ≡ false → x ≡ record { number = 31; place = 0 } → x ≡ family_refusal (panel_of s) (assignment_of ws)
-    family_overlap = routes_overlap s h (assignment_of ws) f g en long r said none b (eb ∙ rw ec)
+  module _ (er : no_refusal ≡ routes_refusal (panel_of s) 0 (paths_at (panel_of s) f.number) (routes_of f.count (drop 2 ws))) (b : Bool) (eb : b ≡ apart (flat (routes_of f.count (drop 2 ws)))) where
+    pub family_overlap : b ≡ false → record { number = 31; place = 0 } ≡ family_refusal (panel_of s) (assignment_of ws)
+    family_overlap z = routes_overlap s h (assignment_of ws) f g en long no_refusal (er ∙ said) (omega arith) b (eb ∙ rw ec) _ z refl
 
-    pub family_none : (x : Refusal) → b ≡ true → x ≡ record { number = 0; place = 0 } → x ≡ family_refusal (panel_of s) (assignment_of ws)
-    family_none = routes_none s h (assignment_of ws) f g en long r said none b (eb ∙ rw ec)
+    pub family_none : b ≡ true → no_refusal ≡ family_refusal (panel_of s) (assignment_of ws)
+    family_none z = routes_none s h (assignment_of ws) f g en long no_refusal (er ∙ said) (omega arith) b (eb ∙ rw ec) _ z refl
+
+pub ruleset family_steps = (routes_parsed, family_refused, family_overlap, family_none)
 
 -- ---- 23, 24
 
@@ -138,92 +134,88 @@ module _ (s : List ℕ) (h : Header) (a : Assignment) (acc : Accepted s h) (numb
         rest : assignment_refusal (panel_of s) a ≡ family_refusal (panel_of s) a
         rest = rw (← er, wanted, count, lt-ltb a.family h.families (rw (← en) lt), eq-eqb n f.count eq)
 
-module _ (s : List ℕ) (h : Header) (ws : List ℕ) (acc : Accepted s h) (number : ℕ) (en : number ≡ get_or ws 0 0) (x : Refusal) where
-  pub refused_23 : h.families ≤ number → x ≡ record { number = 23; place = 0 } → x ≡ assignment_refusal (panel_of s) (assignment_of ws)
-  refused_23 = number_23 s h (assignment_of ws) acc number en x
+module _ (s : List ℕ) (h : Header) (ws : List ℕ) (acc : Accepted s h) where
+  pub refused_23 : h.families ≤ get_or ws 0 0 → record { number = 23; place = 0 } ≡ assignment_refusal (panel_of s) (assignment_of ws)
+  refused_23 le = number_23 s h (assignment_of ws) acc (get_or ws 0 0) refl _ le refl
 
-  module _ (lt : number < h.families) (f : Family) (g : Groups s h f) (ef : f.number ≡ number) (n : ℕ) (er : n ≡ get_or ws 1 0) where
-    given_routes : n ≡ length (assignment_of ws).routes
-    given_routes = er ∙ sym (routes_length (get_or ws 1 0) (drop 2 ws))
+  module _ (lt : get_or ws 0 0 < h.families) (f : Family) (g : Groups s h f) (ef : f.number ≡ get_or ws 0 0) where
+    given_routes : get_or ws 1 0 ≡ length (assignment_of ws).routes
+    given_routes = sym (routes_length (get_or ws 1 0) (drop 2 ws))
 
-    pub refused_24 : (n ≡ f.count → ⊥) → x ≡ record { number = 24; place = 0 } → x ≡ assignment_refusal (panel_of s) (assignment_of ws)
-    refused_24 = number_24 s h (assignment_of ws) acc number en x lt f g ef n given_routes
+    pub refused_24 : (get_or ws 1 0 ≡ f.count → ⊥) → record { number = 24; place = 0 } ≡ assignment_refusal (panel_of s) (assignment_of ws)
+    refused_24 ne = number_24 s h (assignment_of ws) acc (get_or ws 0 0) refl _ lt f g ef (get_or ws 1 0) given_routes ne refl
 
-    pub refused_later : n ≡ f.count → x ≡ family_refusal (panel_of s) (assignment_of ws) → x ≡ assignment_refusal (panel_of s) (assignment_of ws)
-    refused_later = number_later s h (assignment_of ws) acc number en x lt f g ef n given_routes
+    pub refused_later : (x : Refusal) → get_or ws 1 0 ≡ f.count → x ≡ family_refusal (panel_of s) (assignment_of ws) → x ≡ assignment_refusal (panel_of s) (assignment_of ws)
+    refused_later x = number_later s h (assignment_of ws) acc (get_or ws 0 0) refl x lt f g ef (get_or ws 1 0) given_routes
+
+pub ruleset formed_steps = (refused_23, refused_24, refused_later)
 
 -- ---- 21, 22, and the answer
 
--- what is answered to a refusal that is none of 0
-refused_reply : (q : Refusal) (ws xs : List ℕ) (r : AssignmentReply) → 0 < q.number → r ≡ record { refusal = q.number; place = q.place; words = 0 } → Replied q ws xs xs r
-refused_reply q ws xs r h e =
-    let z : eqb q.number 0 ≡ false = ne_eqb q.number 0 (λ n. omega arith) in
-    record { answer = e ∙ rw z; room = rw z }
+some_refusal : (e : AssignmentRefusal) → 0 < number_of e
+some_refusal Room = lit< tt
+some_refusal Words = lit< tt
+some_refusal NoFamily = lit< tt
+some_refusal Count = lit< tt
+some_refusal (Route r) = some_number r.why
+some_refusal Overlap = lit< tt
 
-module _ (p : Panel) (ws xs : List ℕ) where
-  short : length xs < length ws → words_refusal p ws (length xs) ≡ record { number = 21; place = 0 }
-  unfolding words_refusal
-  short lt = rw (lt-leb (length ws) (length xs) lt)
+-- what is answered where something is refused
+refused_reply : (e : AssignmentRefusal) (ws xs : List ℕ) → Replied (record { number = number_of e; place = place_of e }) ws xs xs (reply_of (Err e))
+refused_reply e ws xs =
+    let h = some_refusal e in
+    let z : eqb (number_of e) 0 ≡ false = ne_eqb (number_of e) 0 (λ n. omega arith) in
+    record { answer = rw z; room = rw z }
 
-  passed : length ws ≤ length xs → words_refusal p ws (length xs) ≡ given_refusal p ws
-  unfolding words_refusal given_refusal
-  passed le = rw (le-leb (length ws) (length xs) le)
-
-module _ (p : Panel) (ws xs : List ℕ) (q : Refusal) (r : AssignmentReply) (er : r ≡ record { refusal = q.number; place = q.place; words = 0 }) where
-  answered : (m : ℕ) → q ≡ record { number = suc m; place = 0 } → words_refusal p ws (length xs) ≡ record { number = suc m; place = 0 } → Replied (words_refusal p ws (length xs)) ws xs xs r
-  answered m e w = subst (λ (x : Refusal). Replied x ws xs xs r) (e ∙ sym w) (refused_reply q ws xs r (rw (ap (λ (x : Refusal). x.number) e) (omega arith)) er)
-
-  pub words_21 : length xs < length ws → q ≡ record { number = 21; place = 0 } → Replied (words_refusal p ws (length xs)) ws xs xs r
-  words_21 lt e = answered 20 e (short p ws xs lt)
-
-accepted_reply : (q : Refusal) (ws xs ys : List ℕ) (r : AssignmentReply) (n : ℕ) → Formed ws → length ws ≤ length xs → q.number ≤ 0 → NormalPut ws xs ys n
-    → r ≡ record { refusal = q.number; place = q.place; words = n } → Replied q ws xs ys r
+accepted_reply : (ws xs ys : List ℕ) (n : ℕ) → Formed ws → length ws ≤ length xs → NormalPut ws xs ys n → Replied no_refusal ws xs ys (reply_of (Ok n))
 unfolding normal_words
-accepted_reply q ws xs ys r n w le z put e =
-    let one : eqb q.number 0 ≡ true = eq-eqb q.number 0 (omega arith) in
+accepted_reply ws xs ys n w le put =
     let l = put.long in
     let f = put.few in
     let fits : 0 + length (encode (normal_form (assignment_of ws))) ≤ length xs = omega arith in
     let m : 0 + length (encode (normal_form (assignment_of ws))) ≡ length (encode (normal_form (assignment_of ws))) = omega arith in
-    record { answer = e ∙ rw (one, w.said, l); room = put.words ∙ sets-eq (encode (normal_form (assignment_of ws))) xs 0 fits ∙ rw (m, one, w.said) }
+    record { answer = rw (w.said, l); room = put.words ∙ sets-eq (encode (normal_form (assignment_of ws))) xs 0 fits ∙ rw (m, w.said) }
 
-module _ (p : Panel) (ws xs ys : List ℕ) (q : Refusal) (r : AssignmentReply) (le : length ws ≤ length xs) (eq : q ≡ given_refusal p ws) where
-  says : words_refusal p ws (length xs) ≡ q
-  says = passed p ws xs le ∙ sym eq
+module _ (p : Panel) (ws xs : List ℕ) where
+  pub words_21 : length xs < length ws → Replied (words_refusal p ws (length xs)) ws xs xs (record { refusal = 21; place = 0; words = 0 })
+  unfolding words_refusal
+  words_21 lt = rw (lt-leb (length ws) (length xs) lt) (refused_reply Room ws xs)
 
-  pub words_refused : 0 < q.number → r ≡ record { refusal = q.number; place = q.place; words = 0 } → Replied (words_refusal p ws (length xs)) ws xs xs r
-  words_refused z e = subst (λ (x : Refusal). Replied x ws xs xs r) (sym says) (refused_reply q ws xs r z e)
+  module _ (le : length ws ≤ length xs) where
+    passed : words_refusal p ws (length xs) ≡ given_refusal p ws
+    unfolding words_refusal
+    passed = rw (le-leb (length ws) (length xs) le)
 
-  pub words_accepted : (n : ℕ) → q.number ≤ 0 → NormalPut ws xs ys n → r ≡ record { refusal = q.number; place = q.place; words = n } → Replied (words_refusal p ws (length xs)) ws xs ys r
-  words_accepted n z put e = subst (λ (x : Refusal). Replied x ws xs ys r) (sym says) (accepted_reply q ws xs ys r n (given_formed p ws q eq z) le z put e)
+    pub words_refused : (e : AssignmentRefusal) → record { number = number_of e; place = place_of e } ≡ given_refusal p ws → Replied (words_refusal p ws (length xs)) ws xs xs (record { refusal = number_of e; place = place_of e; words = 0 })
+    words_refused e q = rw (passed, ← q) (refused_reply e ws xs)
+
+    pub words_accepted : (ys : List ℕ) (n : ℕ) → no_refusal ≡ given_refusal p ws → NormalPut ws xs ys n → Replied (words_refusal p ws (length xs)) ws xs ys (record { refusal = 0; place = 0; words = n })
+    words_accepted ys n q put = rw (passed, ← q) (accepted_reply ws xs ys n (given_formed p ws q) le put)
+
+pub ruleset words_steps = (given_formed, words_refused)
 
 -- ---- 1 to 8
 
-module _ (s ws xs ys : List ℕ) (r : AssignmentReply) (o : Opened) (eo : o ≡ checked s) where
-  module _ (h : Header) (t : o ≡ Good h) (d : Replied (words_refusal (panel_of s) ws (length xs)) ws xs ys r) where
-    passes : check_refusal s ws (length xs) ≡ words_refusal (panel_of s) ws (length xs)
-    unfolding check_refusal panel_refusal
-    passes = rw (← eo, t)
+module _ (s ws xs ys : List ℕ) (r : AssignmentReply) (o : Result Header PanelRefusal) (eo : o ≡ checked s) (h : Header) (t : o ≡ Ok h) (d : Replied (words_refusal (panel_of s) ws (length xs)) ws xs ys r) where
+  passes : check_refusal s ws (length xs) ≡ words_refusal (panel_of s) ws (length xs)
+  unfolding check_refusal panel_refusal
+  passes = rw (← eo, t)
 
-    pub check-answer : r ≡ check_answer s ws (length xs)
-    unfolding check_answer
-    check-answer = d.answer ∙ rw passes
+  pub check_answered : (q : AssignmentReply) → q ≡ r → q ≡ check_answer s ws (length xs)
+  unfolding check_answer
+  check_answered q e = e ∙ d.answer ∙ rw passes
 
-    pub check-out : ys ≡ check_out s ws xs
-    unfolding check_out
-    check-out = d.room ∙ rw passes
+  pub check_written : ys ≡ check_out s ws xs
+  unfolding check_out
+  check_written = d.room ∙ rw passes
 
-module _ (s ws xs : List ℕ) (n : ℕ) (q : Refusal) (r : AssignmentReply) (o : Opened) (eo : o ≡ checked s) (t : o ≡ Refused n) where
+module _ (s ws xs : List ℕ) (x : PanelRefusal) (n : ℕ) (is : n ≡ refusal_number x) (o : Result Header PanelRefusal) (eo : o ≡ checked s) (t : o ≡ Err x) where
   number_some : 0 < n
-  number_some = go n refl
-    where
-      go : (m : ℕ) → n ≡ m → 0 < m
-      go zero e = absurd (checked_none s (sym eo ∙ t ∙ ap Refused e))
-      go (suc m) e = omega arith
+  number_some = let some = refusal_some x in omega arith
 
   stops : check_refusal s ws (length xs) ≡ record { number = n; place = 0 }
   unfolding check_refusal panel_refusal
-  stops = rw (← eo, t) (go n number_some)
+  stops = rw (← eo, t, ← is) (go n number_some)
     where
       go : (m : ℕ) → 0 < m → at m 0 (words_refusal (panel_of s) ws (length xs)) ≡ record { number = m; place = 0 }
       go zero h = let z : ⊥ = omega arith in absurd z
@@ -232,9 +224,9 @@ module _ (s ws xs : List ℕ) (n : ℕ) (q : Refusal) (r : AssignmentReply) (o :
   none : eqb n 0 ≡ false
   none = let p = number_some in ne_eqb n 0 (λ e. omega arith)
 
-  pub check_refused : q ≡ record { number = n; place = 0 } → r ≡ record { refusal = q.number; place = q.place; words = 0 } → r ≡ check_answer s ws (length xs)
+  pub check_refused : record { refusal = n; place = 0; words = 0 } ≡ check_answer s ws (length xs)
   unfolding check_answer
-  check_refused eq e = e ∙ rw (eq, stops, none)
+  check_refused = rw (stops, none)
 
   pub check_untouched : xs ≡ check_out s ws xs
   unfolding check_out

@@ -5,10 +5,10 @@ use native.Mathlib.Nat.{zero-add}
 use mathlib.Core.Path.{◌≡◌, refl, sym, ap, ◌∙◌, subst}
 use mathlib.Core.Bool.{Bool, true, false}
 use mathlib.Core.List.{List, [], ◌∷◌, map}
-use lib.Dec.{leb, eqb}
+use lib.Dec.{eqb}
 use lib.ListN.{length, set, length-set, length-drop}
-use lib.Seq.{sets, sets-eq, length-sets, get_or-set_same}
-use borrow.Author.Tests.{le-leb, leb-true, leb-false, eq-eqb}
+use lib.Seq.{sets, sets-eq, get_or-set_same}
+use borrow.Author.Tests.{le-leb, lt-leb}
 use Rattle.ground.specs.Lists.{pick}
 use Rattle.image.specs.declared.Header.{Header}
 use Rattle.image.specs.declared.Family.{Family}
@@ -17,6 +17,12 @@ use Rattle.image.specs.Panel.{Panel, panel_of, paths_at}
 use Rattle.panel.specs.Inner.{Accepted}
 use Rattle.evaluate.specs.declared.Segment.{Segment}
 use Rattle.evaluate.specs.declared.Refusal.{Refusal}
+use Rattle.evaluate.specs.Refusals.{no_refusal}
+use Rattle.routes.specs.declared.RefusedRoute.{RefusedRoute}
+use Rattle.routes.specs.Refusals.{number_of as route_number}
+use Rattle.routes.proofs.Laws.{some_number}
+use Rattle.assignment.specs.declared.AssignmentRefusal.{AssignmentRefusal}
+use Rattle.assignment.specs.Refusals.{number_of, place_of}
 use Rattle.evaluate.specs.Segments.{Route, apart, flat}
 use Rattle.evaluate.specs.Check.{routes_refusal, assignment_refusal, given_refusal, over}
 use Rattle.evaluate.proofs.RoundTrips.{decode_encode}
@@ -27,14 +33,14 @@ use Rattle.names.specs.Names.{lines_of}
 use Rattle.rows.specs.Rows.{slot_of, segment_of}
 use Rattle.texts.specs.declared.Scan.{Scan}
 use Rattle.texts.specs.Bed.{text_ok, all_known, onto, gathered, routes_in, held}
-use Rattle.texts.specs.Inner.{Scanned, Lined, words_from, Holding}
-use Rattle.texts.proofs.Lines.{text_lined, text_slots}
+use Rattle.texts.specs.Inner.{Counted, words_from, Holding}
+use Rattle.texts.proofs.LineLaws.{text_lined, text_slots}
 use Rattle.texts.proofs.Scanning.{first_empty, begun, held_words}
 use Rattle.bed_overlap.specs.Inner.{segments_from}
 use Rattle.bed.specs.declared.BedReply.{BedReply}
 use Rattle.bed.specs.Answers.{text_refusal}
 use Rattle.bed.specs.Inner.{Replied, held_in}
-use Rattle.bed.proofs.Calls.{refused, refused_by}
+use Rattle.bed.proofs.Calls.{refused, refused_by, some_refusal}
 
 -- ---- 25 to 31
 
@@ -57,36 +63,34 @@ flat_lines : (ns : List (List ℕ)) (text : List ℕ) → text_ok text ≡ true 
 unfolding segments_from routes_in
 flat_lines ns text h = sym (flat_gathered ns 0 (lines_of text)) ∙ ap flat (first_empty ns (lines_of text) (text_slots text h))
 
-pub lined : (text : List ℕ) → text_ok text ≡ true → Lined text 0
-lined text h = text_lined text h
+module _ (s : List ℕ) (h : Header) (names text : List ℕ) (f : Family) (g : Groups s h f) (ok : text_ok text ≡ true) (el : length (routes_in (lines_of names) (lines_of text)) ≡ f.count) where
+  pub lines_refused : (e : RefusedRoute) → record { number = route_number e.why; place = e.route } ≡ routes_refusal (panel_of s) 0 (paths_at (panel_of s) f.number) (routes_in (lines_of names) (lines_of text))
+      → record { number = route_number e.why; place = e.route } ≡ family_refusal (panel_of s) (held_in names f.number text)
+  lines_refused e er = routes_refused s h (held_in names f.number text) f g refl el (record { number = route_number e.why; place = e.route }) er (some_number e.why)
 
-module _ (s : List ℕ) (h : Header) (names text : List ℕ) (f : Family) (g : Groups s h f) (ok : text_ok text ≡ true) (el : length (routes_in (lines_of names) (lines_of text)) ≡ f.count)
-    (r : Refusal) (er : r ≡ routes_refusal (panel_of s) 0 (paths_at (panel_of s) f.number) (routes_in (lines_of names) (lines_of text))) where
-  pub lines_refused : 0 < r.number → r ≡ family_refusal (panel_of s) (held_in names f.number text)
-  lines_refused = routes_refused s h (held_in names f.number text) f g refl el r er
+  module _ (er : no_refusal ≡ routes_refusal (panel_of s) 0 (paths_at (panel_of s) f.number) (routes_in (lines_of names) (lines_of text))) (b : Bool) (eb : b ≡ apart (segments_from (lines_of names) text 0)) where
+    pub lines_overlap : b ≡ false → record { number = 31; place = 0 } ≡ family_refusal (panel_of s) (held_in names f.number text)
+    lines_overlap z = routes_overlap s h (held_in names f.number text) f g refl el no_refusal er (omega arith) b (eb ∙ ap apart (flat_lines (lines_of names) text ok)) _ z refl
 
-  module _ (none : r.number ≤ 0) (b : Bool) (eb : b ≡ apart (segments_from (lines_of names) text 0)) where
-    pub lines_overlap : (x : Refusal) → b ≡ false → x ≡ record { number = 31; place = 0 } → x ≡ family_refusal (panel_of s) (held_in names f.number text)
-    lines_overlap = routes_overlap s h (held_in names f.number text) f g refl el r er none b (eb ∙ ap apart (flat_lines (lines_of names) text ok))
+    pub lines_none : b ≡ true → no_refusal ≡ family_refusal (panel_of s) (held_in names f.number text)
+    lines_none z = routes_none s h (held_in names f.number text) f g refl el no_refusal er (omega arith) b (eb ∙ ap apart (flat_lines (lines_of names) text ok)) _ z refl
 
-    pub lines_none : (x : Refusal) → b ≡ true → x ≡ record { number = 0; place = 0 } → x ≡ family_refusal (panel_of s) (held_in names f.number text)
-    lines_none = routes_none s h (held_in names f.number text) f g refl el r er none b (eb ∙ ap apart (flat_lines (lines_of names) text ok))
+pub ruleset family_steps = (text_lined, lines_refused, lines_overlap, lines_none)
 
 -- ---- 23, 24
 
-module _ (s : List ℕ) (h : Header) (names text : List ℕ) (acc : Accepted s h) (family : ℕ) (x : Refusal) where
-  pub held_23 : h.families ≤ family → x ≡ record { number = 23; place = 0 } → x ≡ assignment_refusal (panel_of s) (held_in names family text)
-  held_23 = number_23 s h (held_in names family text) acc family refl x
+module _ (s : List ℕ) (h : Header) (names text : List ℕ) (acc : Accepted s h) (family : ℕ) where
+  pub held_23 : h.families ≤ family → record { number = 23; place = 0 } ≡ assignment_refusal (panel_of s) (held_in names family text)
+  held_23 le = number_23 s h (held_in names family text) acc family refl _ le refl
 
   module _ (lt : family < h.families) (f : Family) (g : Groups s h f) (ef : f.number ≡ family) (n : ℕ) (el : length (routes_in (lines_of names) (lines_of text)) ≡ n) where
-    pub held_24 : (n ≡ f.count → ⊥) → x ≡ record { number = 24; place = 0 } → x ≡ assignment_refusal (panel_of s) (held_in names family text)
-    held_24 = number_24 s h (held_in names family text) acc family refl x lt f g ef n (sym el)
+    pub held_24 : (n ≡ f.count → ⊥) → record { number = 24; place = 0 } ≡ assignment_refusal (panel_of s) (held_in names family text)
+    held_24 ne = number_24 s h (held_in names family text) acc family refl _ lt f g ef n (sym el) ne refl
 
-    pub held_count : n ≡ f.count → length (routes_in (lines_of names) (lines_of text)) ≡ f.count
-    held_count eq = el ∙ eq
+    pub held_later : (x : Refusal) → n ≡ f.count → x ≡ family_refusal (panel_of s) (held_in names f.number text) → x ≡ assignment_refusal (panel_of s) (held_in names family text)
+    held_later x eq e = number_later s h (held_in names family text) acc family refl x lt f g ef n (sym el) eq (e ∙ rw ef)
 
-    pub held_later : n ≡ f.count → x ≡ family_refusal (panel_of s) (held_in names f.number text) → x ≡ assignment_refusal (panel_of s) (held_in names family text)
-    held_later eq e = number_later s h (held_in names family text) acc family refl x lt f g ef n (sym el) eq (e ∙ rw ef)
+pub ruleset held_steps = (held_23, held_24, held_later)
 
 -- ---- the words
 
@@ -118,87 +122,61 @@ module _ (ns : List (List ℕ)) (family : ℕ) (text : List ℕ) (ok : text_ok t
         let b = length-set xs 0 family in
         record { good = ok; fits = omega arith; short = omega arith; count = get_or-set_same (set xs 0 family) 1 routes 0 (omega arith); few = small }
 
-    pub words_same : (ys : List ℕ) → ys ≡ sets (set (set xs 0 family) 1 routes) 2 (words_from G) → length ys ≡ length xs
-    words_same ys e = ap length e ∙ length-sets (set (set xs 0 family) 1 routes) 2 (words_from G) ∙ length-set (set xs 0 family) 1 routes ∙ length-set xs 0 family
-
     pub words_put : (ys : List ℕ) → ys ≡ sets (set (set xs 0 family) 1 routes) 2 (words_from G) → ys ≡ over (held ns family text) xs
     words_put ys e = e ∙ ap (sets xs 0) (sym are) ∙ sets-eq (held ns family text) xs 0 (omega arith) ∙ rw zero-add
 
 -- ---- 22, and the answer
 
-module _ {ns : List (List ℕ)} {text : List ℕ} (c : Scan) (sc : Scanned ns text c) (good : c.good ≡ true) where
-  pub scan_ok : text_ok text ≡ true
-  scan_ok = sym sc.good ∙ good
+module _ {ns : List (List ℕ)} {text : List ℕ} {c : Scan} (sc : Counted ns text c) where
+  pub words_few : (family : ℕ) → 2 + c.routes + 4 * c.lines ≤ 65536 → length (held ns family text) ≤ 65536
+  words_few family h = let l = sc.words family in omega arith
 
-  pub scan_routes : length (routes_in ns (lines_of text)) ≡ c.routes
-  scan_routes = sc.routes good
+  pub room_fits : (family room : ℕ) → 2 + c.routes + 4 * c.lines ≤ room → length (held ns family text) ≤ room
+  room_fits family room h = let l = sc.words family in omega arith
 
-  module _ (b : Bool) (eb : b ≡ leb (2 + c.routes + 4 * c.lines) 65536) (t : b ≡ true) where
-    pub words_short : 2 + c.routes + 4 * c.lines ≤ 65536
-    words_short = leb-true (2 + c.routes + 4 * c.lines) 65536 (sym eb ∙ t)
-
-    pub words_few : (family : ℕ) → length (held ns family text) ≤ 65536
-    words_few family = let l = sc.words good family in let k = words_short in omega arith
-
-    pub words_routes : c.routes ≤ 65536
-    words_routes = let k = words_short in omega arith
-
-module _ (p : Panel) (names : List ℕ) (family : ℕ) (text : List ℕ) (c : Scan) (sc : Scanned (lines_of names) text c) (good : c.good ≡ true) (b : Bool) (eb : b ≡ leb (2 + c.routes + 4 * c.lines) 65536) where
+module _ (p : Panel) (names : List ℕ) (family : ℕ) (text : List ℕ) {c : Scan} (sc : Counted (lines_of names) text c) where
   abbrev ws : List ℕ
   ws = held (lines_of names) family text
 
   many : length ws ≡ 2 + c.routes + 4 * c.lines
-  many = sc.words good family
+  many = sc.words family
 
-  pub words_22 : (xs : List ℕ) (r : BedReply) → b ≡ false → r ≡ record { refusal = 22; place = 0; length = 0 } → Replied (given_refusal p ws) ws xs xs r
-  words_22 xs r z e =
+  pub words_22 : (xs : List ℕ) → 65536 < 2 + c.routes + 4 * c.lines → Replied (given_refusal p ws) ws xs xs (record { refusal = 22; place = 0; length = 0 })
+  words_22 xs lt =
       let l = many in
-      let lt = leb-false (2 + c.routes + 4 * c.lines) 65536 (sym eb ∙ z) in
-      refused_by (given_refusal p ws) 21 ws xs r (sym (given_many p ws (record { number = 22; place = 0 }) (omega arith) refl)) e
+      refused_by (given_refusal p ws) 21 ws xs _ (sym (given_many p ws (record { number = 22; place = 0 }) (omega arith) refl)) refl
 
-  module _ (t : b ≡ true) (q : Refusal) (eq : q ≡ assignment_refusal p (held_in names family text)) (xs : List ℕ) (r : BedReply) where
-    is : q ≡ given_refusal p ws
+  module _ (le : 2 + c.routes + 4 * c.lines ≤ 65536) (xs : List ℕ) where
+    is : assignment_refusal p (held_in names family text) ≡ given_refusal p ws
     unfolding given_refusal held
-    is = eq ∙ sym (rw (le-leb (length ws) 65536 (words_few c sc good b eb t family), decode_encode (held_in names family text)))
+    is = sym (rw (le-leb (length ws) 65536 (words_few sc family le), decode_encode (held_in names family text)))
 
-    pub words_refused : 0 < q.number → r ≡ record { refusal = q.number; place = q.place; length = 0 } → Replied (given_refusal p ws) ws xs xs r
-    words_refused pos e = subst (λ (x : Refusal). Replied x ws xs xs r) is (refused q ws xs r pos e)
+    pub words_refused : (e : AssignmentRefusal) → record { number = number_of e; place = place_of e } ≡ assignment_refusal p (held_in names family text)
+        → Replied (given_refusal p ws) ws xs xs (record { refusal = number_of e; place = place_of e; length = 0 })
+    words_refused e q = subst (λ (x : Refusal). Replied x ws xs xs (record { refusal = number_of e; place = place_of e; length = 0 })) (q ∙ is) (refused (record { number = number_of e; place = place_of e }) ws xs _ (some_refusal e) refl)
 
-    pub words_given : (ys : List ℕ) (n : ℕ) → q.number ≤ 0 → ys ≡ over ws xs → n ≡ 2 + c.routes + 4 * c.lines → r ≡ record { refusal = 0; place = q.place; length = n } → Replied (given_refusal p ws) ws xs ys r
-    words_given ys n none ey en e =
-        let z : q.number ≡ 0 = omega arith in
-        let o : eqb q.number 0 ≡ true = eq-eqb q.number 0 z in
-        subst (λ (x : Refusal). Replied x ws xs ys r) is (record { answer = e ∙ rw (o, z, many, en); room = ey ∙ rw o })
+    pub words_given : (ys : List ℕ) (n : ℕ) → no_refusal ≡ assignment_refusal p (held_in names family text) → ys ≡ over ws xs → n ≡ 2 + c.routes + 4 * c.lines → Replied (given_refusal p ws) ws xs ys (record { refusal = 0; place = 0; length = n })
+    words_given ys n q ey en = subst (λ (x : Refusal). Replied x ws xs ys (record { refusal = 0; place = 0; length = n })) (q ∙ is) (record { answer = rw (many, en); room = ey })
 
 -- ---- 35, 36, 37
 
-pub room_fits : {ns : List (List ℕ)} {text : List ℕ} (c : Scan) → Scanned ns text c → c.good ≡ true → (b : Bool) (room : ℕ) → b ≡ leb (2 + c.routes + 4 * c.lines) room → b ≡ true → (family : ℕ) → length (held ns family text) ≤ room
-room_fits c sc good b room eb t family = let l = sc.words good family in let k = leb-true (2 + c.routes + 4 * c.lines) room (sym eb ∙ t) in omega arith
-
-module _ (p : Panel) (ns : List (List ℕ)) (family : ℕ) (text xs ys : List ℕ) (r : BedReply) (c : Scan) (sc : Scanned ns text c) where
-  pub text_35 : c.good ≡ false → r ≡ record { refusal = 35; place = 0; length = 0 } → Replied (text_refusal p ns family text (length xs)) (held ns family text) xs xs r
+module _ (p : Panel) (ns : List (List ℕ)) (family : ℕ) (text xs : List ℕ) where
+  pub text_35 : text_ok text ≡ false → Replied (text_refusal p ns family text (length xs)) (held ns family text) xs xs (record { refusal = 35; place = 0; length = 0 })
   unfolding text_refusal
-  text_35 z e = let f : text_ok text ≡ false = sym sc.good ∙ z in refused_by (text_refusal p ns family text (length xs)) 34 (held ns family text) xs r (rw f) e
+  text_35 f = refused_by (text_refusal p ns family text (length xs)) 34 (held ns family text) xs _ (rw f) refl
 
-  module _ (good : c.good ≡ true) where
-    formed : text_ok text ≡ true
-    formed = sym sc.good ∙ good
-
-    pub text_36 : c.known ≡ false → r ≡ record { refusal = 36; place = 0; length = 0 } → Replied (text_refusal p ns family text (length xs)) (held ns family text) xs xs r
+  module _ (ok : text_ok text ≡ true) where
+    pub text_36 : all_known ns text ≡ false → Replied (text_refusal p ns family text (length xs)) (held ns family text) xs xs (record { refusal = 36; place = 0; length = 0 })
     unfolding text_refusal
-    text_36 z e = let f : all_known ns text ≡ false = sym (sc.known good) ∙ z in refused_by (text_refusal p ns family text (length xs)) 35 (held ns family text) xs r (rw (formed, f)) e
+    text_36 f = refused_by (text_refusal p ns family text (length xs)) 35 (held ns family text) xs _ (rw (ok, f)) refl
 
-    module _ (known : c.known ≡ true) (b : Bool) (eb : b ≡ leb (2 + c.routes + 4 * c.lines) (length xs)) where
-      sure : all_known ns text ≡ true
-      sure = sym (sc.known good) ∙ known
-
-      room_is : leb (length (held ns family text)) (length xs) ≡ b
-      room_is = rw (sc.words good family) (sym eb)
-
-      pub short_37 : b ≡ false → r ≡ record { refusal = 37; place = 0; length = 0 } → Replied (text_refusal p ns family text (length xs)) (held ns family text) xs xs r
+    module _ (known : all_known ns text ≡ true) {c : Scan} (sc : Counted ns text c) where
+      pub short_37 : length xs < 2 + c.routes + 4 * c.lines → Replied (text_refusal p ns family text (length xs)) (held ns family text) xs xs (record { refusal = 37; place = 0; length = 0 })
       unfolding text_refusal
-      short_37 z e = refused_by (text_refusal p ns family text (length xs)) 36 (held ns family text) xs r (rw (formed, sure, room_is, z)) e
+      short_37 lt = let l = sc.words family in refused_by (text_refusal p ns family text (length xs)) 36 (held ns family text) xs _ (rw (ok, known, lt-leb (length (held ns family text)) (length xs) (omega arith))) refl
 
-      pub text_read : b ≡ true → Replied (given_refusal p (held ns family text)) (held ns family text) xs ys r → Replied (text_refusal p ns family text (length xs)) (held ns family text) xs ys r
+      pub text_read : {ys : List ℕ} {r : BedReply} → 2 + c.routes + 4 * c.lines ≤ length xs → Replied (given_refusal p (held ns family text)) (held ns family text) xs ys r → Replied (text_refusal p ns family text (length xs)) (held ns family text) xs ys r
       unfolding text_refusal
-      text_read t d = rw (formed, sure, room_is, t) d
+      text_read le d = let l = sc.words family in rw (ok, known, le-leb (length (held ns family text)) (length xs) (omega arith)) d
+
+pub ruleset text_steps = (text_35, text_36, short_37, text_read, room_fits)

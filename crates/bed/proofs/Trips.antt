@@ -36,7 +36,8 @@ use Rattle.texts.proofs.Trips.{Writables, written_ok, written_known, written_hel
 use Rattle.bed.specs.declared.BedReply.{BedReply}
 use Rattle.bed.specs.Answers.{table_refusal, room_refusal, bed_text, words_then_room, writing_refusal, text_refusal, reading_refusal, unrefused, write_answer, write_out, read_answer, read_out}
 use Rattle.bed.specs.Theorems.{wrote, WriteHolds, ReadHolds, Writes, RoomSuffices}
-use Rattle.bed.proofs.Calls.{name_short, sound_spans}
+use Rattle.bed.proofs.Calls.{sound_spans}
+use Rattle.bed.proofs.Writing.{name_short}
 use Rattle.bed.proofs.Short.{Slight, routes_slight}
 use Rattle.bed.proofs.Accepted.{routes_some, few_routes}
 

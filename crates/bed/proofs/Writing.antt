@@ -2,12 +2,9 @@
 use Prim.Native.Nat.{ℕ, zero, suc, ◌+◌, ◌-◌, ◌*◌, ◌/◌, ◌%◌, ◌≤◌, ◌<◌}
 use native.Mathlib.Omega.{arith}
 use mathlib.Core.Path.{◌≡◌, refl, sym, ap, ◌∙◌, subst}
-use mathlib.Core.Bool.{Bool, true, false}
+use mathlib.Core.Bool.{Bool, true, false, ◌&&◌}
 use mathlib.Core.List.{List, [], ◌∷◌, ◌++◌, append_assoc}
-use mir.Val.{Fits}
-use mir.Syntax.{w64}
-use borrow.Author.Rules.{Fits-under}
-use lib.Dec.{ltb}
+use lib.Dec.{leb, ltb}
 use lib.ListN.{length, drop, get_or, length-append}
 use Rattle.ground.specs.Lists.{pick}
 use Rattle.evaluate.specs.declared.Segment.{Segment}
@@ -17,12 +14,15 @@ use Rattle.words.specs.Inner.{segment_of, segments_of, routes_of, Parsed}
 use Rattle.words.proofs.Reading.{segments_none, segments_next, routes_none, routes_next, parsed_inside, parsed_next, parsed_route}
 use Rattle.search.specs.Sheet.{digits, decimal, turn_text}
 use Rattle.text.specs.Inner.{Put}
-use Rattle.text.proofs.Laws.{Onto, onto_start, onto_piece, onto_end}
-use Rattle.names.specs.Names.{lines_of, name_at}
-use Rattle.names.specs.Inner.{Span}
+use Rattle.text.proofs.Laws.{Onto, onto_piece, onto_end}
+use Rattle.names.specs.Names.{lines_of, name_at, name_ok}
+use Rattle.names.specs.Inner.{Table}
+use Rattle.names.proofs.Laws as tables
+use Rattle.ground.proofs.ListLaws.{both}
+use borrow.Author.Tests.{leb-true}
 use Rattle.rows.specs.Rows.{row_text, score_text}
 use Rattle.texts.specs.Bed.{route_text, routes_text}
-use Rattle.bed.specs.Inner.{Naming, OnLane, Long, Ready}
+use Rattle.bed.specs.Inner.{OnLane, Long}
 
 -- ---- one line
 
@@ -63,18 +63,21 @@ row_short ns k s h =
     let c = digits_few 20 k in
     omega arith
 
-module _ {names starts ends : List ℕ} {lanes : ℕ} (nm : Naming names starts ends lanes) (s : Segment) (on : OnLane lanes s) where
-  pub lane_near : s.source < 4098
-  lane_near = let f = nm.few in omega arith
+pub name_short : (s : List ℕ) → name_ok s ≡ true → length s ≤ 64
+unfolding name_ok
+name_short s e =
+    let (a, b) = both (leb 1 (length s) && leb (length s) 64) _ e in
+    leb-true (length s) 64 (both (leb 1 (length s)) (leb (length s) 64) a).1
 
-  pub lane_span : Span names starts ends s.source (name_at (lines_of names) s.source)
-  lane_span = nm.spans s.source on
+pub lane_short : {names starts ends heads links : List ℕ} {lanes : ℕ} → Table names starts ends heads links lanes → (lane : ℕ) → lane < lanes → length (name_at (lines_of names) lane) ≤ 64
+lane_short {names} {lanes = lanes} t lane lt = name_short (name_at (lines_of names) lane) (tables.lane_name_ok (tables.good_table names lanes t.good) lane lt)
 
-  pub row_long : (k : ℕ) {xs ys : List ℕ} {n : ℕ} → length xs ≡ 192 → Put (row_text (lines_of names) k s ++ (10 ∷ [])) xs 0 ys n → Long (row_text (lines_of names) k s ++ (10 ∷ [])) 1 n
-  row_long k l p =
-      let h = row_short (lines_of names) k s (nm.short s.source on) in
-      let q = p.after in
-      record { is = omega arith; small = omega arith }
+pub row_long : {names starts ends heads links : List ℕ} {lanes : ℕ} (s : Segment) → Table names starts ends heads links lanes → OnLane lanes s
+    → (k : ℕ) {xs ys : List ℕ} {n : ℕ} → length xs ≡ 192 → Put (row_text (lines_of names) k s ++ (10 ∷ [])) xs 0 ys n → Long (row_text (lines_of names) k s ++ (10 ∷ [])) 1 n
+row_long {names} s t on k l p =
+    let h = row_short (lines_of names) k s (lane_short t s.source on) in
+    let q = p.after in
+    record { is = omega arith; small = omega arith }
 
 -- ---- a route
 
@@ -84,9 +87,6 @@ pub record Measuring (ns : List (List ℕ)) (lanes k : ℕ) (ws : List ℕ) (fro
   pub on : Each (OnLane lanes) (segments_of n (drop place ws))
   pub todo : length (route_text ns k (segments_of left (drop from ws))) ≡ sum + length (route_text ns k (segments_of n (drop place ws)))
   pub small : sum + 133 * n ≤ 133 * left
-
-pub measuring_start : (ns : List (List ℕ)) (lanes k : ℕ) (ws : List ℕ) (from left : ℕ) → from + 4 * left ≤ length ws → length ws ≤ 65536 → Each (OnLane lanes) (segments_of left (drop from ws)) → Measuring ns lanes k ws from left from left 0
-measuring_start ns lanes k ws from left h m o = record { inside = h; few = omega arith; on = o; todo = omega arith; small = omega arith }
 
 row_then : (ns : List (List ℕ)) (k : ℕ) (s : Segment) (r : Route) → route_text ns k (s ∷ r) ≡ (row_text ns k s ++ (10 ∷ [])) ++ route_text ns k r
 unfolding route_text
@@ -101,14 +101,6 @@ module _ {ns : List (List ℕ)} {lanes k : ℕ} {ws : List ℕ} {from left place
     measuring_on = both_on.0
 
     module _ (r : ℕ) (l : Long (row_text ns k s ++ (10 ∷ [])) 1 r) where
-      pub measuring_fits : Fits w64 (sum + r)
-      measuring_fits =
-          let a = m.few in
-          let b = m.small in
-          let c = l.small in
-          let lt : sum + r < 4000000 = omega arith in
-          Fits-under w64 (sum + r) 4000000 lt tt
-
       pub measuring_next : Measuring ns lanes k ws from left (place + 4) (n - 1) (sum + r)
       measuring_next =
           let i = m.inside in
@@ -126,6 +118,14 @@ module _ {ns : List (List ℕ)} {lanes k : ℕ} {ws : List ℕ} {from left place
       let b = m.small in
       record { is = omega (arith, m.todo, none); small = omega arith }
 
+-- i segments have been measured
+pub measuring_step : {ns : List (List ℕ)} {lanes k : ℕ} {ws : List ℕ} {from left sum : ℕ} (i : ℕ) {s : Segment} {r : ℕ} → Measuring ns lanes k ws from left (from + 4 * i) (left - i) sum → i < left
+    → s ≡ segment_of (drop (from + 4 * i) ws) → Long (row_text ns k s ++ (10 ∷ [])) 1 r → Measuring ns lanes k ws from left (from + 4 * (i + 1)) (left - (i + 1)) (sum + r)
+measuring_step {from = from} {left = left} i {s} {r} m lt e l =
+    let a : from + 4 * i + 4 ≡ from + 4 * (i + 1) = omega arith in
+    let b : left - i - 1 ≡ left - (i + 1) = omega arith in
+    rw (← a, ← b) (measuring_next m s (omega arith) e r l)
+
 -- ---- all routes
 
 pub record Summing (ns : List (List ℕ)) (lanes : ℕ) (ws : List ℕ) (routes place slot sum : ℕ) : Type 0 where
@@ -135,11 +135,6 @@ pub record Summing (ns : List (List ℕ)) (lanes : ℕ) (ws : List ℕ) (routes 
   pub short : length ws ≤ 65536
   pub todo : length (routes_text ns 0 (routes_of routes (drop 2 ws))) ≡ sum + length (routes_text ns slot (routes_of (routes - slot) (drop place ws)))
   pub small : sum ≤ 133 * place
-
-pub summing_start : (ns : List (List ℕ)) (lanes : ℕ) (ws : List ℕ) (routes : ℕ) → Ready ws routes lanes → Summing ns lanes ws routes 2 0 0
-summing_start ns lanes ws routes r =
-    let z : routes - 0 ≡ routes = omega arith in
-    record { few = omega arith; parsed = rw z r.parsed; on = rw z r.named; short = r.short; todo = rw z (omega arith); small = omega arith }
 
 module _ {ns : List (List ℕ)} {lanes : ℕ} {ws : List ℕ} {routes place slot sum : ℕ} (m : Summing ns lanes ws routes place slot sum) where
   pub summing_route : slot < routes → place + 1 + 4 * get_or ws place 0 ≤ length ws
@@ -159,15 +154,6 @@ module _ {ns : List (List ℕ)} {lanes : ℕ} {ws : List ℕ} {routes place slot
     summing_inside = parsed_inside m.parsed pos e
 
     module _ (r : ℕ) (l : Long (route_text ns slot (segments_of k (drop (place + 1) ws))) k r) where
-      pub summing_fits : Fits w64 (sum + r)
-      summing_fits =
-          let a = m.small in
-          let b = m.short in
-          let c = l.small in
-          let i = summing_inside in
-          let bound : sum + r < 40000000 = omega arith in
-          Fits-under w64 (sum + r) 40000000 bound tt
-
       pub summing_next : Summing ns lanes ws routes (place + 1 + 4 * k) (slot + 1) (sum + r)
       unfolding routes_text
       summing_next =
@@ -204,13 +190,7 @@ pub record Writing (ns : List (List ℕ)) (lanes k : ℕ) (ws : List ℕ) (from 
   pub on : Each (OnLane lanes) (segments_of n (drop place ws))
   pub onto : Onto (route_text ns k (segments_of left (drop from ws))) xs at (route_text ns k (segments_of n (drop place ws))) ys to
 
-pub writing_start : (ns : List (List ℕ)) (lanes k : ℕ) (ws : List ℕ) (from left : ℕ) (xs : List ℕ) (at : ℕ) → from + 4 * left ≤ length ws → Each (OnLane lanes) (segments_of left (drop from ws)) → Writing ns lanes k ws from left xs at from left xs at
-writing_start ns lanes k ws from left xs at h o = record { inside = h; on = o; onto = onto_start (route_text ns k (segments_of left (drop from ws))) xs at }
-
 module _ {ns : List (List ℕ)} {lanes k : ℕ} {ws : List ℕ} {from left : ℕ} {xs : List ℕ} {at place n : ℕ} {ys : List ℕ} {to : ℕ} (w : Writing ns lanes k ws from left xs at place n ys to) where
-  pub writing_long : length ys ≡ length xs
-  writing_long = w.onto.long
-
   module _ (s : Segment) (pos : 0 < n) (e : s ≡ segment_of (drop place ws)) where
     lanes_on : OnLane lanes s × Each (OnLane lanes) (segments_of (n - 1) (drop (place + 4) ws))
     lanes_on = rw e (subst (λ (r : Route). Each (OnLane lanes) r) (segments_next ws place n pos) w.on)
@@ -233,6 +213,14 @@ module _ {ns : List (List ℕ)} {lanes k : ℕ} {ws : List ℕ} {from left : ℕ
   unfolding route_text
   writing_ends z = onto_end (subst (λ (r : Route). Onto (route_text ns k (segments_of left (drop from ws))) xs at (route_text ns k r) ys to) (segments_none ws place n z) w.onto)
 
+-- i segments' lines have been written
+pub writing_step : {ns : List (List ℕ)} {lanes k : ℕ} {ws : List ℕ} {from left : ℕ} {xs : List ℕ} {at : ℕ} {ys zs : List ℕ} {to n : ℕ} (i : ℕ) {s : Segment} → Writing ns lanes k ws from left xs at (from + 4 * i) (left - i) ys to → i < left
+    → s ≡ segment_of (drop (from + 4 * i) ws) → Put (row_text ns k s ++ (10 ∷ [])) ys to zs n → Writing ns lanes k ws from left xs at (from + 4 * (i + 1)) (left - (i + 1)) zs n
+writing_step {from = from} {left = left} i {s} w lt e p =
+    let a : from + 4 * i + 4 ≡ from + 4 * (i + 1) = omega arith in
+    let b : left - i - 1 ≡ left - (i + 1) = omega arith in
+    rw (← a, ← b) (writing_next w s (omega arith) e p)
+
 -- ---- the lines of all routes
 
 pub record Listing (ns : List (List ℕ)) (lanes : ℕ) (ws : List ℕ) (routes : ℕ) (xs : List ℕ) (place slot : ℕ) (ys : List ℕ) (to : ℕ) : Type 0 where
@@ -241,15 +229,7 @@ pub record Listing (ns : List (List ℕ)) (lanes : ℕ) (ws : List ℕ) (routes 
   pub on : Each (Each (OnLane lanes)) (routes_of (routes - slot) (drop place ws))
   pub onto : Onto (routes_text ns 0 (routes_of routes (drop 2 ws))) xs 0 (routes_text ns slot (routes_of (routes - slot) (drop place ws))) ys to
 
-pub listing_start : (ns : List (List ℕ)) (lanes : ℕ) (ws : List ℕ) (routes : ℕ) (xs : List ℕ) → Ready ws routes lanes → Listing ns lanes ws routes xs 2 0 xs 0
-listing_start ns lanes ws routes xs r =
-    let z : routes - 0 ≡ routes = omega arith in
-    record { few = omega arith; parsed = rw z r.parsed; on = rw z r.named; onto = rw z (onto_start (routes_text ns 0 (routes_of routes (drop 2 ws))) xs 0) }
-
 module _ {ns : List (List ℕ)} {lanes : ℕ} {ws : List ℕ} {routes : ℕ} {xs : List ℕ} {place slot : ℕ} {ys : List ℕ} {to : ℕ} (w : Listing ns lanes ws routes xs place slot ys to) where
-  pub listing_long : length ys ≡ length xs
-  listing_long = w.onto.long
-
   pub listing_route : slot < routes → place + 1 + 4 * get_or ws place 0 ≤ length ws
   listing_route lt = let pos : 0 < routes - slot = omega arith in parsed_route w.parsed pos
 

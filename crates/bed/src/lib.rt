@@ -1,7 +1,7 @@
 // Routes as BED: an assignment's words written as lines, and lines read back into words.
 #![tactic(auto)]
 
-ghost use Rattle.std.specs.Prelude.{◌≡◌, true, [], ◌∷◌, ◌++◌, ◌+◌, ◌*◌, ◌≤◌, length, drop, get_or, replicate};
+ghost use Rattle.std.specs.Prelude.{◌≡◌, true, [], ◌∷◌, ◌++◌, ◌+◌, ◌*◌, ◌≤◌, length, drop, get_or};
 ghost use Rattle.image.specs.Inner.{Groups};
 ghost use Rattle.image.specs.Panel.{panel_of, paths_at};
 ghost use Rattle.panel.specs.Inner.{Accepted};
@@ -9,97 +9,135 @@ ghost use Rattle.evaluate.specs.Properties.{Each};
 ghost use Rattle.evaluate.specs.Refusals.{at};
 ghost use Rattle.evaluate.specs.Check.{routes_refusal, assignment_refusal, given_refusal, over};
 ghost use Rattle.words.specs.Inner.{segments_of, routes_of};
+ghost use Rattle.routes.specs.Refusals.{refused_of};
 ghost use Rattle.assignment.specs.Inner.{family_refusal};
+ghost use Rattle.assignment.specs.Refusals.{refusal_of};
 ghost use Rattle.text.specs.Inner.{Put};
 ghost use Rattle.names.specs.Names.{lines_of};
-ghost use Rattle.names.specs.Inner.{Table};
 ghost use Rattle.rows.specs.Rows.{row_text};
 ghost use Rattle.texts.specs.Bed.{route_text, routes_text, text_ok, held, routes_in};
-ghost use Rattle.texts.specs.Inner.{Scanned};
+ghost use Rattle.texts.specs.Inner.{Counted};
 ghost use Rattle.bed.specs.Answers.{words_then_room, bed_text, write_answer, write_out, text_refusal, read_answer, read_out, table_refusal};
-ghost use Rattle.bed.specs.Inner.{Naming, OnLane, Long, Ready, Replied, last_refusal, held_in};
+ghost use Rattle.bed.specs.Inner.{number_of, place_of, answer_of, OnLane, Long, Ready, Replied, last_refusal, held_in};
 ghost use Rattle.bed.specs.Theorems.{WriteHolds, ReadHolds};
+ghost use Rattle.bed.specs.declared.BedRefusal.TheVariants.{Text, Assignment};
 
 // What writing and reading answer: the refusal, and how many bytes or words of out they wrote.
 #[repr(C)]
-#[derive(Clone, Copy)]
+#[derive(Clone, Copy, PartialEq, Eq, Debug)]
 pub struct BedReply {
     pub refusal: u64,
     pub place: u64,
     pub length: u64,
 }
 
+// Why nothing is written or read.
+#[derive(Clone, Copy, PartialEq, Eq, Debug)]
+enum BedRefusal {
+    Panel(image::PanelRefusal),
+    Table,
+    Text(texts::TextRefusal),
+    Room,
+    Assignment(assignment::AssignmentRefusal),
+}
+
+impl BedRefusal {
+    // Its number: 1 to 8, 34, 35 and 36, 37, 22 to 31.
+    fn number(self) -> u64
+        ensures { result ≡ number_of self }
+    {
+        match self {
+            BedRefusal::Panel(e) => e.number(),
+            BedRefusal::Table => 34,
+            BedRefusal::Text(e) => e.number(),
+            BedRefusal::Room => 37,
+            BedRefusal::Assignment(e) => e.number(),
+        }
+    }
+
+    // Its place: the route that is refused, or 0.
+    fn place(self) -> u64
+        ensures { result ≡ place_of self }
+    {
+        match self {
+            BedRefusal::Assignment(e) => e.place(),
+            _ => 0,
+        }
+    }
+}
+
+impl From<texts::TextRefusal> for BedRefusal {
+    ghost from_gives = { λ r e. e ≡ Text r };
+
+    fn from(r: texts::TextRefusal) -> BedRefusal {
+        BedRefusal::Text(r)
+    }
+}
+
+impl From<assignment::AssignmentRefusal> for BedRefusal {
+    ghost from_gives = { λ r e. e ≡ Assignment r };
+
+    fn from(r: assignment::AssignmentRefusal) -> BedRefusal {
+        BedRefusal::Assignment(r)
+    }
+}
+
+fn reply(r: Result<usize, BedRefusal>) -> BedReply
+    ensures { result ≡ answer_of r }
+{
+    match r {
+        Ok(length) => BedReply {
+            refusal: 0,
+            place: 0,
+            length: length as u64,
+        },
+        Err(e) => BedReply {
+            refusal: e.number(),
+            place: e.place(),
+            length: 0,
+        },
+    }
+}
+
 // ---- how long the lines are
 
 // The line is put into a room that holds any line.
-fn row_length(
-    names: &[u8],
-    starts: &[usize; 4098],
-    ends: &[usize; 4098],
-    lanes: usize,
-    slot: u64,
-    s: evaluate::Segment,
-) -> usize
-    requires { Naming names.now starts.now ends.now lanes × OnLane lanes s }
-    ensures { Long (row_text (lines_of names.now) slot s ++ (10 ∷ [])) 1 result }
+fn row_length(table: &names::NameTable, slot: u64, s: evaluate::Segment) -> usize
+    requires { OnLane table.now.lanes s }
+    ensures { Long (row_text (lines_of table.now.names.now) slot s ++ (10 ∷ [])) 1 result }
 {
     let mut line = [0u8; 192];
-    rows::put_row(&mut line, 0, names, starts, ends, slot, s)
+    rows::put_row(&mut line, 0, table, slot, s)
 }
 
 fn route_length(
-    names: &[u8],
-    starts: &[usize; 4098],
-    ends: &[usize; 4098],
-    lanes: usize,
+    table: &names::NameTable,
     slot: u64,
     words: &[u64],
     from: usize,
     left: usize,
 ) -> usize
-    requires { Naming names.now starts.now ends.now lanes × (from + 4 * left ≤ length words.now) × (length words.now ≤ 65536) × Each (OnLane lanes) (segments_of left (drop from words.now)) }
-    ensures { Long (route_text (lines_of names.now) slot (segments_of left (drop from words.now))) left result }
+    requires { (from + 4 * left ≤ length words.now) × (length words.now ≤ 65536) × Each (OnLane table.now.lanes) (segments_of left (drop from words.now)) }
+    ensures { Long (route_text (lines_of table.now.names.now) slot (segments_of left (drop from words.now))) left result }
 {
-    let mut sum: usize = 0;
-    let mut place = from;
-    let mut n = left;
-    while 0 < n {
-        let s = words::segment_at(words, place);
-        sum += row_length(names, starts, ends, lanes, slot, s);
-        place += evaluate::Segment::WORDS;
-        n -= 1;
+    let mut sum = 0;
+    for i in 0..left {
+        let s = words::segment_at(words, from + evaluate::Segment::WORDS * i);
+        sum += row_length(table, slot, s);
     }
     sum
 }
 
-fn text_length(
-    names: &[u8],
-    starts: &[usize; 4098],
-    ends: &[usize; 4098],
-    lanes: usize,
-    words: &[u64],
-    routes: usize,
-) -> usize
-    requires { Naming names.now starts.now ends.now lanes × Ready words.now routes lanes }
-    ensures { result ≡ length (routes_text (lines_of names.now) 0 (routes_of routes (drop 2 words.now))) }
+fn text_length(table: &names::NameTable, words: &[u64], routes: usize) -> usize
+    requires { Ready words.now routes table.now.lanes }
+    ensures { result ≡ length (routes_text (lines_of table.now.names.now) 0 (routes_of routes (drop 2 words.now))) }
 {
-    let mut sum: usize = 0;
+    let mut sum = 0;
     let mut place: usize = 2;
-    let mut slot: usize = 0;
-    while slot < routes {
+    for slot in 0..routes {
         let left = words::count_at(words, place);
-        sum += route_length(
-            names,
-            starts,
-            ends,
-            lanes,
-            slot as u64,
-            words,
-            place + 1,
-            left,
-        );
+        sum += route_length(table, slot as u64, words, place + 1, left);
         place = place + 1 + evaluate::Segment::WORDS * left;
-        slot += 1;
     }
     sum
 }
@@ -109,130 +147,67 @@ fn text_length(
 fn put_route(
     out: &mut [u8],
     at: usize,
-    names: &[u8],
-    starts: &[usize; 4098],
-    ends: &[usize; 4098],
-    lanes: usize,
+    table: &names::NameTable,
     slot: u64,
     words: &[u64],
     from: usize,
     left: usize,
 ) -> usize
-    requires { Naming names.now starts.now ends.now lanes × (from + 4 * left ≤ length words.now) × Each (OnLane lanes) (segments_of left (drop from words.now)) }
-    ensures { Put (route_text (lines_of names.now) slot (segments_of left (drop from words.now))) out.old at out.new result }
+    requires { (from + 4 * left ≤ length words.now) × Each (OnLane table.now.lanes) (segments_of left (drop from words.now)) }
+    ensures { Put (route_text (lines_of table.now.names.now) slot (segments_of left (drop from words.now))) out.old at out.new result }
 {
     let mut to = at;
-    let mut place = from;
-    let mut n = left;
-    while 0 < n {
-        let s = words::segment_at(words, place);
-        to = rows::put_row(out, to, names, starts, ends, slot, s);
-        place += evaluate::Segment::WORDS;
-        n -= 1;
+    for i in 0..left {
+        let s = words::segment_at(words, from + evaluate::Segment::WORDS * i);
+        to = rows::put_row(out, to, table, slot, s);
     }
     to
 }
 
-fn put_routes(
-    out: &mut [u8],
-    names: &[u8],
-    starts: &[usize; 4098],
-    ends: &[usize; 4098],
-    lanes: usize,
-    words: &[u64],
-    routes: usize,
-) -> usize
-    requires { Naming names.now starts.now ends.now lanes × Ready words.now routes lanes }
-    ensures { Put (routes_text (lines_of names.now) 0 (routes_of routes (drop 2 words.now))) out.old 0 out.new result }
+fn put_routes(out: &mut [u8], table: &names::NameTable, words: &[u64], routes: usize) -> usize
+    requires { Ready words.now routes table.now.lanes }
+    ensures { Put (routes_text (lines_of table.now.names.now) 0 (routes_of routes (drop 2 words.now))) out.old 0 out.new result }
 {
-    let mut to: usize = 0;
+    let mut to = 0;
     let mut place: usize = 2;
-    let mut slot: usize = 0;
-    while slot < routes {
+    for slot in 0..routes {
         let left = words::count_at(words, place);
-        to = put_route(
-            out,
-            to,
-            names,
-            starts,
-            ends,
-            lanes,
-            slot as u64,
-            words,
-            place + 1,
-            left,
-        );
+        to = put_route(out, to, table, slot as u64, words, place + 1, left);
         place = place + 1 + evaluate::Segment::WORDS * left;
-        slot += 1;
     }
     to
 }
 
 // ---- writing
 
-fn reply(refusal: u64, place: u64, length: usize) -> BedReply
-    ensures { result ≡ record { refusal = refusal; place = place; length = length } }
-{
-    BedReply {
-        refusal,
-        place,
-        length: length as u64,
-    }
-}
-
 // 37, or the text, of an assignment that the check accepts.
-fn write_text(
-    names: &[u8],
-    starts: &[usize; 4098],
-    ends: &[usize; 4098],
-    lanes: usize,
-    words: &[u64],
-    out: &mut [u8],
-) -> BedReply
-    requires { Naming names.now starts.now ends.now lanes × (2 ≤ length words.now) × Ready words.now (get_or words.now 1 0) lanes }
-    ensures { Replied (last_refusal (routes_text (lines_of names.now) 0 (routes_of (get_or words.now 1 0) (drop 2 words.now))) (length out.old)) (routes_text (lines_of names.now) 0 (routes_of (get_or words.now 1 0) (drop 2 words.now))) out.old out.new result }
+#[tactic(auto, using(crate::proofs::Calls::text_steps))]
+fn write_text(table: &names::NameTable, words: &[u64], out: &mut [u8]) -> Result<usize, BedRefusal>
+    requires { (2 ≤ length words.now) × Ready words.now (get_or words.now 1 0) table.now.lanes }
+    ensures { Replied (last_refusal (routes_text (lines_of table.now.names.now) 0 (routes_of (get_or words.now 1 0) (drop 2 words.now))) (length out.old)) (routes_text (lines_of table.now.names.now) 0 (routes_of (get_or words.now 1 0) (drop 2 words.now))) out.old out.new (answer_of result) }
 {
     let routes = words[1] as usize;
-    let n = text_length(names, starts, ends, lanes, words, routes);
+    let n = text_length(table, words, routes);
     if out.len() < n {
-        reply(37, 0, 0)
-    } else {
-        let m = put_routes(out, names, starts, ends, lanes, words, routes);
-        reply(0, 0, m)
+        return Err(BedRefusal::Room);
     }
+    Ok(put_routes(out, table, words, routes))
 }
 
 // The check's from 22 on, and 37.
+#[tactic(auto, using(crate::proofs::Calls::named_steps))]
 fn write_named(
     image: &[u8],
     h: image::Header,
-    names: &[u8],
-    starts: &[usize; 4098],
-    ends: &[usize; 4098],
+    table: &names::NameTable,
     words: &[u64],
     out: &mut [u8],
-) -> BedReply
-    requires { Accepted image.now h × Naming names.now starts.now ends.now h.lanes }
-    ensures { Replied (words_then_room (panel_of image.now) names.now words.now (length out.old)) (bed_text names.now words.now) out.old out.new result }
+) -> Result<usize, BedRefusal>
+    requires { Accepted image.now h × (table.now.lanes ≡ h.lanes) }
+    ensures { Replied (words_then_room (panel_of image.now) table.now.names.now words.now (length out.old)) (bed_text table.now.names.now words.now) out.old out.new (answer_of result) }
 {
-    let r = assignment::given_refusal(image, h, words);
-    if 0 < r.number {
-        reply(r.number, r.place, 0)
-    } else {
-        write_text(names, starts, ends, h.lanes, words, out)
-    }
-}
-
-fn no_places() -> [usize; 4098]
-    ensures { result ≡ replicate 4098 0 }
-{
-    [0usize; 4098]
-}
-
-fn no_chains() -> [usize; 4096]
-    ensures { result ≡ replicate 4096 0 }
-{
-    [0usize; 4096]
+    assignment::check_given(image, h, words)?;
+    write_text(table, words, out)
 }
 
 // 34, and the rest.
@@ -242,15 +217,15 @@ fn write_panel(
     names: &[u8],
     words: &[u64],
     out: &mut [u8],
-) -> BedReply
+) -> Result<usize, BedRefusal>
     requires { Accepted image.now h }
-    ensures { Replied (at (table_refusal (panel_of image.now) names.now) 0 (words_then_room (panel_of image.now) names.now words.now (length out.old))) (bed_text names.now words.now) out.old out.new result }
+    ensures { Replied (at (table_refusal (panel_of image.now) names.now) 0 (words_then_room (panel_of image.now) names.now words.now (length out.old))) (bed_text names.now words.now) out.old out.new (answer_of result) }
 {
-    let mut starts = no_places();
-    let mut ends = no_places();
-    let mut heads = no_chains();
-    let mut links = no_chains();
-    if names::read_table(
+    let mut starts = [0; 4098];
+    let mut ends = [0; 4098];
+    let mut heads = [0; 4096];
+    let mut links = [0; 4096];
+    match names::NameTable::read(
         names,
         &mut starts,
         &mut ends,
@@ -258,9 +233,8 @@ fn write_panel(
         &mut links,
         h.lanes,
     ) {
-        write_named(image, h, names, &starts, &ends, words, out)
-    } else {
-        reply(34, 0, 0)
+        Some(table) => write_named(image, h, &table, words, out),
+        None => Err(BedRefusal::Table),
     }
 }
 
@@ -271,208 +245,121 @@ pub fn write_bed(image: &[u8], names: &[u8], words: &[u64], out: &mut [u8]) -> B
     ensures write_holds { WriteHolds image.now names.now words.now result out.new }
 {
     match graph::check_panel(image) {
-        image::Opened::Good(h) => write_panel(image, h, names, words, out),
-        image::Opened::Refused(n) => reply(n, 0, 0),
+        Ok(h) => reply(write_panel(image, h, names, words, out)),
+        Err(e) => reply(Err(BedRefusal::Panel(e))),
     }
 }
 
 // ---- reading
 
-fn refusal(number: u64) -> evaluate::Refusal
-    ensures { result ≡ record { number = number; place = 0 } }
-{
-    evaluate::Refusal { number, place: 0 }
-}
-
 // 25 to 30; where the lanes' lists begin is not kept for 31, which wants the stack.
-fn routes_refusal(
+fn check_routes(
     image: &[u8],
     h: image::Header,
-    names: &[u8],
-    starts: &[usize; 4098],
-    ends: &[usize; 4098],
-    heads: &[usize; 4096],
-    links: &[usize; 4096],
+    table: &names::NameTable,
     text: &[u8],
     f: image::Family,
-) -> evaluate::Refusal
-    requires { Accepted image.now h × Groups image.now h f × Table names.now starts.now ends.now heads.now links.now h.lanes × (text_ok text.now ≡ true) × (length (routes_in (lines_of names.now) (lines_of text.now)) ≡ f.count) }
-    ensures { result ≡ routes_refusal (panel_of image.now) 0 (paths_at (panel_of image.now) f.number) (routes_in (lines_of names.now) (lines_of text.now)) }
+) -> Result<(), routes::RefusedRoute>
+    requires { Accepted image.now h × Groups image.now h f × (text_ok text.now ≡ true) × (length (routes_in (lines_of table.now.names.now) (lines_of text.now)) ≡ f.count) }
+    ensures { refused_of result ≡ routes_refusal (panel_of image.now) 0 (paths_at (panel_of image.now) f.number) (routes_in (lines_of table.now.names.now) (lines_of text.now)) }
 {
     let lane_starts = image::lane_starts(image, h);
-    bed_routes::routes_refusal(
-        image,
-        h,
-        &lane_starts,
-        names,
-        starts,
-        ends,
-        heads,
-        links,
-        text,
-        f,
-    )
+    bed_routes::check_routes(image, h, &lane_starts, table, text, f)
 }
 
 // 25 to 31, of a text that has a route for each path of its family.
-fn family_refusal(
+#[tactic(auto, using(crate::proofs::Reading::family_steps))]
+fn check_family(
     image: &[u8],
     h: image::Header,
-    names: &[u8],
-    starts: &[usize; 4098],
-    ends: &[usize; 4098],
-    heads: &[usize; 4096],
-    links: &[usize; 4096],
+    table: &names::NameTable,
     text: &[u8],
     f: image::Family,
-) -> evaluate::Refusal
-    requires { Accepted image.now h × Groups image.now h f × Table names.now starts.now ends.now heads.now links.now h.lanes × (text_ok text.now ≡ true) × (length (routes_in (lines_of names.now) (lines_of text.now)) ≡ f.count) }
-    ensures { result ≡ family_refusal (panel_of image.now) (held_in names.now f.number text.now) }
+) -> Result<(), assignment::AssignmentRefusal>
+    requires { Accepted image.now h × Groups image.now h f × (text_ok text.now ≡ true) × (length (routes_in (lines_of table.now.names.now) (lines_of text.now)) ≡ f.count) }
+    ensures { refusal_of result ≡ family_refusal (panel_of image.now) (held_in table.now.names.now f.number text.now) }
 {
-    let r = routes_refusal(image, h, names, starts, ends, heads, links, text, f);
-    if 0 < r.number {
-        return r;
-    }
-    if bed_overlap::are_apart(names, starts, ends, heads, links, h.lanes, text) {
-        refusal(0)
+    check_routes(image, h, table, text, f)?;
+    if bed_overlap::are_apart(table, text) {
+        Ok(())
     } else {
-        refusal(31)
+        Err(assignment::AssignmentRefusal::Overlap)
     }
 }
 
 // 23 to 31.
-fn held_refusal(
+#[tactic(auto, using(crate::proofs::Reading::held_steps))]
+fn check_held(
     image: &[u8],
     h: image::Header,
-    names: &[u8],
-    starts: &[usize; 4098],
-    ends: &[usize; 4098],
-    heads: &[usize; 4096],
-    links: &[usize; 4096],
+    table: &names::NameTable,
     family: u64,
     text: &[u8],
     routes: usize,
-) -> evaluate::Refusal
-    requires { Accepted image.now h × Table names.now starts.now ends.now heads.now links.now h.lanes × (text_ok text.now ≡ true) × (length (routes_in (lines_of names.now) (lines_of text.now)) ≡ routes) }
-    ensures { result ≡ assignment_refusal (panel_of image.now) (held_in names.now family text.now) }
+) -> Result<(), assignment::AssignmentRefusal>
+    requires { Accepted image.now h × (text_ok text.now ≡ true) × (length (routes_in (lines_of table.now.names.now) (lines_of text.now)) ≡ routes) }
+    ensures { refusal_of result ≡ assignment_refusal (panel_of image.now) (held_in table.now.names.now family text.now) }
 {
     let number = family as usize;
-    if number < h.families {
-        let f = assignment::family_of(image, h, number);
-        if routes == f.count {
-            family_refusal(image, h, names, starts, ends, heads, links, text, f)
-        } else {
-            refusal(24)
-        }
-    } else {
-        refusal(23)
+    if h.families <= number {
+        return Err(assignment::AssignmentRefusal::Family);
     }
+    let f = assignment::family_of(image, h, number);
+    if routes != f.count {
+        return Err(assignment::AssignmentRefusal::Count);
+    }
+    check_family(image, h, table, text, f)
 }
 
 // The words that a text holds.
-fn put_words(
-    out: &mut [u64],
-    names: &[u8],
-    starts: &[usize; 4098],
-    ends: &[usize; 4098],
-    heads: &[usize; 4096],
-    links: &[usize; 4096],
-    lanes: usize,
-    family: u64,
-    text: &[u8],
-    routes: u64,
-)
-    requires { Table names.now starts.now ends.now heads.now links.now lanes × (text_ok text.now ≡ true) × (length (routes_in (lines_of names.now) (lines_of text.now)) ≡ routes) × (length (held (lines_of names.now) family text.now) ≤ length out.old) × (length (held (lines_of names.now) family text.now) ≤ 65536) × (routes ≤ 65536) }
-    ensures { out.new ≡ over (held (lines_of names.now) family text.now) out.old }
+fn put_words(out: &mut [u64], table: &names::NameTable, family: u64, text: &[u8], routes: u64)
+    requires { (text_ok text.now ≡ true) × (length (routes_in (lines_of table.now.names.now) (lines_of text.now)) ≡ routes) × (length (held (lines_of table.now.names.now) family text.now) ≤ length out.old) × (length (held (lines_of table.now.names.now) family text.now) ≤ 65536) × (routes ≤ 65536) }
+    ensures { out.new ≡ over (held (lines_of table.now.names.now) family text.now) out.old }
 {
     out[0] = family;
     out[1] = routes;
-    texts::put_lines(out, names, starts, ends, heads, links, lanes, text, routes);
-}
-
-// The words of so many lines and routes.
-fn count_words(lines: usize, routes: usize) -> usize
-    requires { 2 + routes + 4 * lines ≤ 65536 }
-    ensures { result ≡ 2 + routes + 4 * lines }
-{
-    2 + routes + evaluate::Segment::WORDS * lines
+    texts::put_lines(out, table, text, routes);
 }
 
 // The check's from 22 on; the words, if there is none.
 fn read_words(
     image: &[u8],
     h: image::Header,
-    names: &[u8],
-    starts: &[usize; 4098],
-    ends: &[usize; 4098],
-    heads: &[usize; 4096],
-    links: &[usize; 4096],
+    table: &names::NameTable,
     family: u64,
     text: &[u8],
-    s: texts::Scan,
+    scan: texts::Scan,
     out: &mut [u64],
-) -> BedReply
-    requires { Accepted image.now h × Table names.now starts.now ends.now heads.now links.now h.lanes × Scanned (lines_of names.now) text.now s × (s.good ≡ true) × (length (held (lines_of names.now) family text.now) ≤ length out.old) }
-    ensures { Replied (given_refusal (panel_of image.now) (held (lines_of names.now) family text.now)) (held (lines_of names.now) family text.now) out.old out.new result }
+) -> Result<usize, BedRefusal>
+    requires { Accepted image.now h × (text_ok text.now ≡ true) × Counted (lines_of table.now.names.now) text.now scan × (length (held (lines_of table.now.names.now) family text.now) ≤ length out.old) }
+    ensures { Replied (given_refusal (panel_of image.now) (held (lines_of table.now.names.now) family text.now)) (held (lines_of table.now.names.now) family text.now) out.old out.new (answer_of result) }
 {
-    if texts::fits(s.lines, s.routes, assignment::WORDS) {
-        let r = held_refusal(
-            image, h, names, starts, ends, heads, links, family, text, s.routes,
-        );
-        if 0 < r.number {
-            return reply(r.number, r.place, 0);
-        }
-        put_words(
-            out,
-            names,
-            starts,
-            ends,
-            heads,
-            links,
-            h.lanes,
-            family,
-            text,
-            s.routes as u64,
-        );
-        let n = count_words(s.lines, s.routes);
-        reply(0, r.place, n)
-    } else {
-        reply(22, 0, 0)
+    if !scan.fits(assignment::WORDS) {
+        return Err(BedRefusal::Assignment(assignment::AssignmentRefusal::Words));
     }
+    check_held(image, h, table, family, text, scan.routes)?;
+    put_words(out, table, family, text, scan.routes as u64);
+    Ok(2 + scan.routes + evaluate::Segment::WORDS * scan.lines)
 }
 
 // 35, 36, 37, and the rest.
+#[tactic(auto, using(crate::proofs::Reading::text_steps))]
 fn read_named(
     image: &[u8],
     h: image::Header,
-    names: &[u8],
-    starts: &[usize; 4098],
-    ends: &[usize; 4098],
-    heads: &[usize; 4096],
-    links: &[usize; 4096],
+    table: &names::NameTable,
     family: u64,
     text: &[u8],
     out: &mut [u64],
-) -> BedReply
-    requires { Accepted image.now h × Table names.now starts.now ends.now heads.now links.now h.lanes }
-    ensures { Replied (text_refusal (panel_of image.now) (lines_of names.now) family text.now (length out.old)) (held (lines_of names.now) family text.now) out.old out.new result }
+) -> Result<usize, BedRefusal>
+    requires { Accepted image.now h }
+    ensures { Replied (text_refusal (panel_of image.now) (lines_of table.now.names.now) family text.now (length out.old)) (held (lines_of table.now.names.now) family text.now) out.old out.new (answer_of result) }
 {
-    let s = texts::scan_text(names, starts, ends, heads, links, h.lanes, text);
-    if s.good {
-        if s.known {
-            if texts::fits(s.lines, s.routes, out.len()) {
-                read_words(
-                    image, h, names, starts, ends, heads, links, family, text, s, out,
-                )
-            } else {
-                reply(37, 0, 0)
-            }
-        } else {
-            reply(36, 0, 0)
-        }
-    } else {
-        reply(35, 0, 0)
+    let scan = texts::scan_text(table, text)?;
+    if !scan.fits(out.len()) {
+        return Err(BedRefusal::Room);
     }
+    read_words(image, h, table, family, text, scan, out)
 }
 
 // 34, and the rest.
@@ -483,15 +370,15 @@ fn read_panel(
     family: u64,
     text: &[u8],
     out: &mut [u64],
-) -> BedReply
+) -> Result<usize, BedRefusal>
     requires { Accepted image.now h }
-    ensures { Replied (at (table_refusal (panel_of image.now) names.now) 0 (text_refusal (panel_of image.now) (lines_of names.now) family text.now (length out.old))) (held (lines_of names.now) family text.now) out.old out.new result }
+    ensures { Replied (at (table_refusal (panel_of image.now) names.now) 0 (text_refusal (panel_of image.now) (lines_of names.now) family text.now (length out.old))) (held (lines_of names.now) family text.now) out.old out.new (answer_of result) }
 {
-    let mut starts = no_places();
-    let mut ends = no_places();
-    let mut heads = no_chains();
-    let mut links = no_chains();
-    if names::read_table(
+    let mut starts = [0; 4098];
+    let mut ends = [0; 4098];
+    let mut heads = [0; 4096];
+    let mut links = [0; 4096];
+    match names::NameTable::read(
         names,
         &mut starts,
         &mut ends,
@@ -499,11 +386,8 @@ fn read_panel(
         &mut links,
         h.lanes,
     ) {
-        read_named(
-            image, h, names, &starts, &ends, &heads, &links, family, text, out,
-        )
-    } else {
-        reply(34, 0, 0)
+        Some(table) => read_named(image, h, &table, family, text, out),
+        None => Err(BedRefusal::Table),
     }
 }
 
@@ -514,7 +398,7 @@ pub fn read_bed(image: &[u8], names: &[u8], family: u64, text: &[u8], out: &mut 
     ensures read_holds { ReadHolds image.now names.now text.now result out.new }
 {
     match graph::check_panel(image) {
-        image::Opened::Good(h) => read_panel(image, h, names, family, text, out),
-        image::Opened::Refused(n) => reply(n, 0, 0),
+        Ok(h) => reply(read_panel(image, h, names, family, text, out)),
+        Err(e) => reply(Err(BedRefusal::Panel(e))),
     }
 }

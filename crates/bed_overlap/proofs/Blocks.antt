@@ -2,8 +2,10 @@
 use Prim.Native.Nat.{ℕ, zero, suc, ◌+◌, ◌-◌, ◌*◌, ◌≤◌, ◌<◌}
 use native.Mathlib.Omega.{arith}
 use mathlib.Core.Path.{◌≡◌, refl, sym, ap, ap₂, ◌∙◌, subst}
-use mathlib.Core.Bool.{Bool}
-use mathlib.Core.List.{List, [], ◌∷◌, map}
+use Rattle.std.proofs.Common.{Option, MatchOption}
+use Rattle.std.specs.Bool.{then_some}
+use mathlib.Core.Bool.{Bool, true, false}
+use mathlib.Core.List.{List, [], ◌∷◌, ◌++◌, map}
 use lib.ListN.{length, take, drop, drop_of_length-le}
 use lib.Seq.{sets, length-sets, take-nil, drop-nil}
 use Rattle.evaluate.specs.declared.Segment.{Segment}
@@ -16,14 +18,14 @@ use Rattle.rows.specs.Rows.{segment_of}
 use Rattle.texts.specs.declared.Line.{Line}
 use Rattle.texts.specs.Inner.{Lined, LineAt}
 use Rattle.bed_overlap.specs.declared.Block.{Block}
-use Rattle.bed_overlap.specs.Inner.{segments_from, block_at, BlockPut, standing, FirstApart, NextApart}
+use Rattle.bed_overlap.specs.Inner.{segments_from, block_at, Behind, BlockPut, standing, FirstApart, NextApart}
 use Rattle.bed_overlap.proofs.Standing.{standing_set, standing_kept, standing_put}
 
 -- ---- the segments of the lines
 
-pub segments_nothing : (ns : List (List ℕ)) (text : List ℕ) (n at : ℕ) → n ≡ length text → n ≤ at → segments_from ns text at ≡ []
+pub segments_nothing : (ns : List (List ℕ)) (text : List ℕ) (at : ℕ) → length text ≤ at → segments_from ns text at ≡ []
 unfolding segments_from
-segments_nothing ns text n at e h = ap (λ (l : List ℕ). map (segment_of ns) (lines_of l)) (drop_of_length-le text {i = at} (omega arith)) ∙ ap (map (segment_of ns)) lines_nothing
+segments_nothing ns text at h = ap (λ (l : List ℕ). map (segment_of ns) (lines_of l)) (drop_of_length-le text {i = at} h) ∙ ap (map (segment_of ns)) lines_nothing
 
 segments_here : {ns : List (List ℕ)} {text : List ℕ} {at : ℕ} {l : Line} → LineAt ns text at l → segments_from ns text at ≡ l.segment ∷ segments_from ns text l.next
 unfolding segments_from
@@ -41,27 +43,12 @@ pub record Putting (ns : List (List ℕ)) (text : List ℕ) (at to : ℕ) (xs ys
   pub counted : 1024 + length (take left (segments_from ns text from)) ≡ left + length (block_at ns text at)
   pub rest : drop left (segments_from ns text from) ≡ drop 1024 (segments_from ns text at)
 
-pub putting_start : {ns : List (List ℕ)} {text : List ℕ} {at to : ℕ} {xs : List ℕ} → Lined text at → Putting ns text at to xs xs to at 1024
+pub putting_start : {ns : List (List ℕ)} {text : List ℕ} {at to place : ℕ} {xs : List ℕ} → place ≡ to → Lined text at → Putting ns text at to xs xs place at 1024
 unfolding block_at
-putting_start h = record { lined = h; same = refl; few = omega arith; here = omega arith; further = omega arith; words = refl; counted = refl; rest = refl }
+putting_start e h = rw e (record { lined = h; same = refl; few = omega arith; here = omega arith; further = omega arith; words = refl; counted = refl; rest = refl })
 
 module _ {ns : List (List ℕ)} {text : List ℕ} {at to : ℕ} {xs ys : List ℕ} {place from left : ℕ} (p : Putting ns text at to xs ys place from left) where
-  pub putting_lined : Lined text from
-  putting_lined = p.lined
-
-  pub putting_same : length ys ≡ length xs
-  putting_same = p.same
-
-  pub putting_sum : to ≤ 4097 → place + 4 ≤ 8197
-  putting_sum h = let e = p.here in omega arith
-
-  pub putting_room : 0 < left → to + 4096 ≤ length xs → place + 4 ≤ length ys
-  putting_room h k = let e = p.here in let s = p.same in omega arith
-
-  pub putting_few : left ≤ 1024
-  putting_few = p.few
-
-  pub putting_more : {l : Line} {zs : List ℕ} (s : Segment) → 0 < left → LineAt ns text from l → s ≡ l.segment → zs ≡ sets ys place (segment_words (s ∷ [])) → Putting ns text at to xs zs (place + 4) l.next (left - 1)
+  putting_more : {l : Line} {zs : List ℕ} (s : Segment) → 0 < left → LineAt ns text from l → s ≡ l.segment → zs ≡ sets ys place (segment_words (s ∷ [])) → Putting ns text at to xs zs (place + 4) l.next (left - 1)
   putting_more {l} {zs} s lt d es ez = go left refl
     where
       here : segments_from ns text from ≡ s ∷ segments_from ns text l.next
@@ -108,18 +95,31 @@ module _ {ns : List (List ℕ)} {text : List ℕ} {at to : ℕ} {xs ys : List �
           behind = record { rest = sym all ∙ p.rest; lined = p.lined; order = omega arith; further = on };
         }
 
-  pub putting_open : (n : ℕ) → n ≡ length text → n ≤ from → BlockPut ns text at to xs ys (record { count = 1024 - left; next = from })
-  putting_open n e h =
-      let z = segments_nothing ns text n from e h in
+  putting_open : length text ≤ from → BlockPut ns text at to xs ys (record { count = 1024 - left; next = from })
+  putting_open h =
+      let z = segments_nothing ns text from h in
       ended (ap (take left) z ∙ take-nil left) (ap (drop left) z ∙ drop-nil left ∙ sym z) (λ k. omega arith)
 
-  pub putting_full : left ≤ 0 → BlockPut ns text at to xs ys (record { count = 1024; next = from })
+-- i of them have been put
+module _ {ns : List (List ℕ)} {text : List ℕ} {at to : ℕ} {xs ys : List ℕ} {from : ℕ} (i : ℕ) (p : Putting ns text at to xs ys (to + 4 * i) from (1024 - i)) where
+  pub putting_again : {l : Line} {zs : List ℕ} → i < 1024 → LineAt ns text from l → zs ≡ sets ys (to + 4 * i) (segment_words (l.segment ∷ [])) → Putting ns text at to xs zs (to + 4 * (i + 1)) l.next (1024 - (i + 1))
+  putting_again {l} {zs} lt d ez =
+      let a : to + 4 * i + 4 ≡ to + 4 * (i + 1) = omega arith in
+      let b : 1024 - i - 1 ≡ 1024 - (i + 1) = omega arith in
+      rw (← a, ← b) (putting_more p l.segment (omega arith) d refl ez)
+
+  pub putting_ended : i ≤ 1024 → length text ≤ from → BlockPut ns text at to xs ys (record { count = i; next = from })
+  putting_ended few h =
+      let e : 1024 - (1024 - i) ≡ i = omega arith in
+      subst (λ (k : ℕ). BlockPut ns text at to xs ys (record { count = k; next = from })) e (putting_open p h)
+
+  pub putting_full : 1024 ≤ i → BlockPut ns text at to xs ys (record { count = 1024; next = from })
   putting_full h =
-      let z : left ≡ 0 = omega arith in
+      let z : 1024 - i ≡ 0 = omega arith in
       let f = p.further in
-      let full : 1024 - left ≡ 1024 = omega arith in
+      let full : 1024 - (1024 - i) ≡ 1024 = omega arith in
       subst (λ (k : ℕ). BlockPut ns text at to xs ys (record { count = k; next = from })) full
-      (ended (ap (λ (k : ℕ). take k (segments_from ns text from)) z) (ap (λ (k : ℕ). drop k (segments_from ns text from)) z) (λ k. omega arith))
+      (ended p (ap (λ (k : ℕ). take k (segments_from ns text from)) z) (ap (λ (k : ℕ). drop k (segments_from ns text from)) z) (λ k. omega arith))
 
 -- ---- a block behind the first ones of a room
 
@@ -127,16 +127,13 @@ module _ {ns : List (List ℕ)} {text : List ℕ} {at count : ℕ} {xs ys : List
   fits : 1 + 4 * count + 4 * length (block_at ns text at) ≤ length xs
   fits = let c = p.counted in let f = p.few in omega arith
 
-  pub next_fits : 1 + 4 * (count + b.count) ≤ length ys
-  next_fits = let f = p.few in rw (p.words, length-sets xs (1 + 4 * count) (segment_words (block_at ns text at))) (omega arith)
+  pub next_told : {zs : List ℕ} {r : Bool} {o : Option ℕ} → FirstApart (count + b.count) ys zs r → o ≡ then_some r b.next → NextApart ns text at count xs zs o
+  next_told {zs} {r} {o} f e = record { told = rw e (go r known); same = ap (standing count) f.words ∙ standing_set count ys (count + b.count) ∙ ap (standing count) p.words ∙ standing_kept count xs (block_at ns text at) fits }
+    where
+      known : r ≡ apart (standing count xs ++ block_at ns text at)
+      known = f.told ∙ ap apart (ap₂ (λ (k : ℕ) (l : List ℕ). standing (count + k) l) p.counted p.words ∙ standing_put count xs (block_at ns text at) fits)
 
-  pub next_few : count + b.count ≤ 2048
-  next_few = let f = p.few in omega arith
-
-  pub next_told : {zs : List ℕ} (r : Bool) → FirstApart (count + b.count) ys zs r → NextApart ns text at count xs zs (record { apart = r; next = b.next })
-  next_told r f =
-      record {
-        told = f.told ∙ ap apart (ap₂ (λ (k : ℕ) (l : List ℕ). standing (count + k) l) p.counted p.words ∙ standing_put count xs (block_at ns text at) fits);
-        same = ap (standing count) f.words ∙ standing_set count ys (count + b.count) ∙ ap (standing count) p.words ∙ standing_kept count xs (block_at ns text at) fits;
-        behind = p.behind;
-      }
+      go : (r : Bool) → r ≡ apart (standing count xs ++ block_at ns text at)
+          → MatchOption (then_some r b.next) (apart (standing count xs ++ block_at ns text at) ≡ false) (λ next. (apart (standing count xs ++ block_at ns text at) ≡ true) × Behind ns text at next)
+      go true k = (sym k, p.behind)
+      go false k = sym k

@@ -1,5 +1,5 @@
 -- The segments of a text's lines, and what the functions that hold them against each other block by block promise; only `segments_from` is part of a public promise.
-use Rattle.std.specs.Prelude.{ℕ, ◌≤◌, ◌<◌, ◌≡◌, Bool, ◌&&◌, List, ◌++◌, map, length, take, drop, set}
+use Rattle.std.specs.Prelude.{ℕ, ◌≤◌, ◌<◌, ◌≡◌, Bool, true, false, Option, MatchOption, List, ◌++◌, map, length, take, drop, set}
 use Rattle.std.proofs.lemmas.List.Edits.{sets}
 use Rattle.evaluate.specs.declared.Segment.{Segment}
 use Rattle.evaluate.specs.Segments.{apart}
@@ -9,7 +9,6 @@ use Rattle.names.specs.Names.{lines_of}
 use Rattle.rows.specs.Rows.{segment_of}
 use Rattle.texts.specs.Inner.{Lined}
 use Rattle.bed_overlap.specs.declared.Block.{Block}
-use Rattle.bed_overlap.specs.declared.Held.{Held}
 
 -- the segments of the lines from a place on
 unfoldable pub segments_from : List (List ℕ) → List ℕ → ℕ → List Segment
@@ -42,13 +41,11 @@ pub record FirstApart (count : ℕ) (xs ys : List ℕ) (r : Bool) : Type 0 where
   pub told : r ≡ apart (standing count xs)
   pub words : ys ≡ set xs 0 count
 
--- the same of them and a block put behind them
-pub record NextApart (ns : List (List ℕ)) (text : List ℕ) (at count : ℕ) (xs ys : List ℕ) (r : Held) : Type 0 where
-  pub told : r.apart ≡ apart (standing count xs ++ block_at ns text at)
+-- the same of them and a block put behind them: where they do not, the place behind the block
+pub record NextApart (ns : List (List ℕ)) (text : List ℕ) (at count : ℕ) (xs ys : List ℕ) (r : Option ℕ) : Type 0 where
+  pub told : MatchOption r (apart (standing count xs ++ block_at ns text at) ≡ false) (λ next. (apart (standing count xs ++ block_at ns text at) ≡ true) × Behind ns text at next)
   pub same : standing count ys ≡ standing count xs
-  pub behind : Behind ns text at r.next
 
--- a block is clear of itself and of all behind it, or two share a base
-pub record BlockApart (ns : List (List ℕ)) (text : List ℕ) (at : ℕ) (r : Held) : Type 0 where
-  pub told : (r.apart && apart (segments_from ns text r.next)) ≡ apart (segments_from ns text at)
-  pub behind : Behind ns text at r.next
+-- a block is clear of itself and of all behind it, and the place behind it, or two share a base
+abbrev pub BlockApart : List (List ℕ) → List ℕ → ℕ → Option ℕ → Type 0
+BlockApart ns text at r = MatchOption r (apart (segments_from ns text at) ≡ false) (λ next. (apart (segments_from ns text next) ≡ apart (segments_from ns text at)) × Behind ns text at next)

@@ -1,11 +1,10 @@
 // Refusal 31 of a text's lines: whether two segments share a base. Their words are not all in one room: each block of them is held against each later one.
 #![tactic(auto)]
 
-ghost use Rattle.std.specs.Prelude.{◌≡◌, ◌&&◌, ◌++◌, ◌+◌, ◌*◌, ◌≤◌, length, drop, get_or, replicate};
+ghost use Rattle.std.specs.Prelude.{◌≡◌, ◌&&◌, ◌++◌, ◌+◌, ◌*◌, ◌≤◌, length, drop, get_or};
 ghost use Rattle.evaluate.specs.Segments.{apart};
 ghost use Rattle.words.specs.Inner.{segments_of};
 ghost use Rattle.names.specs.Names.{lines_of};
-ghost use Rattle.names.specs.Inner.{Table};
 ghost use Rattle.texts.specs.Inner.{Lined};
 ghost use Rattle.bed_overlap.specs.Inner.{segments_from, standing, BlockPut, FirstApart, NextApart, BlockApart};
 
@@ -13,54 +12,28 @@ ghost use Rattle.bed_overlap.specs.Inner.{segments_from, standing, BlockPut, Fir
 const BLOCK: usize = 1024;
 
 // A block of lines whose segments have been put into a room: how many, and where the next line begins.
-#[derive(Clone, Copy)]
+#[derive(Clone, Copy, PartialEq, Eq, Debug)]
 struct Block {
     count: usize,
     next: usize,
 }
 
-// Whether a block is clear, and where the next one begins.
-#[derive(Clone, Copy)]
-struct Held {
-    apart: bool,
-    next: usize,
-}
-
 // The segments of a block, from a word on.
-fn put_block(
-    room: &mut [u64],
-    to: usize,
-    names: &[u8],
-    starts: &[usize; 4098],
-    ends: &[usize; 4098],
-    heads: &[usize; 4096],
-    links: &[usize; 4096],
-    lanes: usize,
-    text: &[u8],
-    at: usize,
-) -> Block
-    requires { Table names.now starts.now ends.now heads.now links.now lanes × Lined text.now at × (to + 4096 ≤ length room.old) × (to ≤ 4097) }
-    ensures { BlockPut (lines_of names.now) text.now at to room.old room.new result }
+fn put_block(room: &mut [u64], to: usize, table: &names::NameTable, text: &[u8], at: usize) -> Block
+    requires { Lined text.now at × (to + 4096 ≤ length room.old) × (to ≤ 4097) }
+    ensures { BlockPut (lines_of table.now.names.now) text.now at to room.old room.new result }
 {
-    let n = text.len();
-    let mut place = to;
     let mut from = at;
-    let mut left = BLOCK;
-    while 0 < left {
-        let next = place + evaluate::Segment::WORDS;
-        let fewer = left - 1;
-        if n <= from {
+    for i in 0..BLOCK {
+        if text.len() <= from {
             return Block {
-                count: BLOCK - left,
+                count: i,
                 next: from,
             };
         }
-        let l = texts::line_at(names, starts, ends, heads, links, lanes, text, from);
-        let s = l.segment;
-        words::put_segment(room, place, s);
-        place = next;
+        let l = texts::line_at(table, text, from);
+        words::put_segment(room, to + evaluate::Segment::WORDS * i, l.segment);
         from = l.next;
-        left = fewer;
     }
     Block {
         count: BLOCK,
@@ -81,126 +54,75 @@ fn are_first_apart(room: &mut [u64], count: usize) -> bool
     requires { (1 + 4 * count ≤ length room.old) × (count ≤ 2048) }
     ensures { FirstApart count room.old room.new result }
 {
-    let n = 1 + evaluate::Segment::WORDS * count;
     room[0] = count as u64;
-    is_route_apart(room, n)
+    is_route_apart(room, 1 + evaluate::Segment::WORDS * count)
 }
 
-// The same of the first ones and a block put behind them.
-fn is_next_apart(
+// The same of the first ones and a block put behind them, and where the next block begins.
+fn next_if_apart(
     room: &mut [u64],
     count: usize,
-    names: &[u8],
-    starts: &[usize; 4098],
-    ends: &[usize; 4098],
-    heads: &[usize; 4096],
-    links: &[usize; 4096],
-    lanes: usize,
+    table: &names::NameTable,
     text: &[u8],
     at: usize,
-) -> Held
-    requires { Table names.now starts.now ends.now heads.now links.now lanes × Lined text.now at × (8193 ≤ length room.old) × (count ≤ 1024) }
-    ensures { NextApart (lines_of names.now) text.now at count room.old room.new result }
+) -> Option<usize>
+    requires { Lined text.now at × (8193 ≤ length room.old) × (count ≤ 1024) }
+    ensures { NextApart (lines_of table.now.names.now) text.now at count room.old room.new result }
 {
     let to = 1 + evaluate::Segment::WORDS * count;
-    let b = put_block(room, to, names, starts, ends, heads, links, lanes, text, at);
-    let apart = are_first_apart(room, count + b.count);
-    Held {
-        apart,
-        next: b.next,
-    }
+    let b = put_block(room, to, table, text, at);
+    are_first_apart(room, count + b.count).then_some(b.next)
 }
 
 // The same of the first ones and each later block in turn; where there is none, of the first ones alone.
 fn are_later_apart(
     room: &mut [u64],
     count: usize,
-    names: &[u8],
-    starts: &[usize; 4098],
-    ends: &[usize; 4098],
-    heads: &[usize; 4096],
-    links: &[usize; 4096],
-    lanes: usize,
+    table: &names::NameTable,
     text: &[u8],
     at: usize,
 ) -> bool
-    requires { Table names.now starts.now ends.now heads.now links.now lanes × Lined text.now at × (8193 ≤ length room.old) × (count ≤ 1024) }
-    ensures { (result && apart (segments_from (lines_of names.now) text.now at)) ≡ apart (standing count room.old ++ segments_from (lines_of names.now) text.now at) }
+    requires { Lined text.now at × (8193 ≤ length room.old) × (count ≤ 1024) }
+    ensures { (result && apart (segments_from (lines_of table.now.names.now) text.now at)) ≡ apart (standing count room.old ++ segments_from (lines_of table.now.names.now) text.now at) }
 {
-    let n = text.len();
     let mut from = at;
-    let mut more = true;
-    while more {
-        let later = is_next_apart(
-            room, count, names, starts, ends, heads, links, lanes, text, from,
-        );
-        if later.apart {
-            from = later.next;
-            more = from < n;
-        } else {
-            return false;
+    while let Some(next) = next_if_apart(room, count, table, text, from) {
+        if text.len() <= next {
+            return true;
         }
+        from = next;
     }
-    true
+    false
 }
 
-// A block against itself and each later one; the last one has itself alone.
-fn is_block_apart(
+// A block against itself and each later one; the last one has itself alone. Where the next one begins.
+fn block_if_apart(
     room: &mut [u64],
-    names: &[u8],
-    starts: &[usize; 4098],
-    ends: &[usize; 4098],
-    heads: &[usize; 4096],
-    links: &[usize; 4096],
-    lanes: usize,
+    table: &names::NameTable,
     text: &[u8],
     at: usize,
-) -> Held
-    requires { Table names.now starts.now ends.now heads.now links.now lanes × Lined text.now at × (8193 ≤ length room.old) }
-    ensures { BlockApart (lines_of names.now) text.now at result }
+) -> Option<usize>
+    requires { Lined text.now at × (8193 ≤ length room.old) }
+    ensures { BlockApart (lines_of table.now.names.now) text.now at result }
 {
-    let b = put_block(room, 1, names, starts, ends, heads, links, lanes, text, at);
-    let next = b.next;
-    let apart = are_later_apart(
-        room, b.count, names, starts, ends, heads, links, lanes, text, next,
-    );
-    Held { apart, next }
-}
-
-// The words of two blocks, and their count.
-fn no_room() -> [u64; 8193]
-    ensures { result ≡ replicate 8193 0 }
-{
-    [0u64; 8193]
+    let b = put_block(room, 1, table, text, at);
+    are_later_apart(room, b.count, table, text, b.next).then_some(b.next)
 }
 
 // Whether no two segments of a text's lines share a base.
-pub fn are_apart(
-    names: &[u8],
-    starts: &[usize; 4098],
-    ends: &[usize; 4098],
-    heads: &[usize; 4096],
-    links: &[usize; 4096],
-    lanes: usize,
-    text: &[u8],
-) -> bool
-    requires { Table names.now starts.now ends.now heads.now links.now lanes × Lined text.now 0 }
-    ensures { result ≡ apart (segments_from (lines_of names.now) text.now 0) }
+pub fn are_apart(table: &names::NameTable, text: &[u8]) -> bool
+    requires { Lined text.now 0 }
+    ensures { result ≡ apart (segments_from (lines_of table.now.names.now) text.now 0) }
 {
-    if bed_spread::is_spread(names, starts, ends, heads, links, lanes, text) {
+    if bed_spread::is_spread(table, text) {
         return true;
     }
-    let n = text.len();
-    let mut room = no_room();
-    let mut at: usize = 0;
-    while at < n {
-        let held = is_block_apart(
-            &mut room, names, starts, ends, heads, links, lanes, text, at,
-        );
-        if held.apart {
-            at = held.next;
-        } else {
-            return false;
+    let mut room = [0; 8193];
+    let mut at = 0;
+    while at < text.len() {
+        match block_if_apart(&mut room, table, text, at) {
+            Some(next) => at = next,
+            None => return false,
         }
     }
     true

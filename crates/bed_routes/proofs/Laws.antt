@@ -28,12 +28,13 @@ use Rattle.rows.specs.Rows.{slot_of, segment_of}
 use Rattle.texts.specs.declared.Line.{Line}
 use Rattle.texts.specs.Bed.{slots_from, text_ok, onto, gathered, routes_in}
 use Rattle.texts.specs.Inner.{Lined, LineAt}
-use Rattle.texts.proofs.Lines.{text_lined, text_slots}
+use Rattle.texts.proofs.LineLaws.{text_lined, text_slots}
 use Rattle.texts.proofs.Scanning.{gathered_some}
-use Rattle.routes.proofs.Laws.{at_none, at_found}
+use Rattle.routes.proofs.Laws.{at_found, some_number}
 use Rattle.bed_routes.specs.declared.Seen.{Seen}
-use Rattle.bed_routes.specs.declared.Passed.{Passed}
-use Rattle.bed_routes.specs.Inner.{verdict, Begun, Onward, opening, Ahead, routes_from, Judged}
+use Rattle.routes.specs.declared.RouteRefusal.{RouteRefusal}
+use Rattle.routes.specs.Refusals.{number_of}
+use Rattle.bed_routes.specs.Inner.{verdict, Begun, Onward, opening, Ahead, routes_from, Passed}
 
 -- ---- what a line adds
 
@@ -81,8 +82,11 @@ pub record Walking (p : Panel) (target : ℕ) (ns : List (List ℕ)) (text : Lis
   pub todo : route_refusal p target (get_or (routes_from ns text k at) 0 []) ≡ verdict p target w (get_or (gathered ns (suc k) (lines_of (drop place text))) 0 [])
   pub rest : drop 1 (routes_from ns text k at) ≡ drop 1 (gathered ns (suc k) (lines_of (drop place text)))
 
-pub ahead_lined : {text : List ℕ} {k at : ℕ} → Ahead text k at → Lined text at
-ahead_lined a = a.lined
+-- all of it has been seen, and the next route begins at a place
+pub record Walked (p : Panel) (target : ℕ) (ns : List (List ℕ)) (text : List ℕ) (k at : ℕ) (w : Seen) (place : ℕ) : Type 0 where
+  pub whole : route_refusal p target (get_or (routes_from ns text k at) 0 []) ≡ verdict p target w []
+  pub rest : drop 1 (routes_from ns text k at) ≡ routes_from ns text (suc k) place
+  pub ahead : Ahead text (suc k) place
 
 module _ {ns : List (List ℕ)} {text : List ℕ} {k at : ℕ} (a : Ahead text k at) (l : Line) (d : LineAt ns text at l) where
   opens_here : slot_of d.line ≡ k
@@ -110,9 +114,6 @@ module _ {ns : List (List ℕ)} {text : List ℕ} {k at : ℕ} (a : Ahead text k
       }
 
 module _ {p : Panel} {target : ℕ} {ns : List (List ℕ)} {text : List ℕ} {k at : ℕ} {w : Seen} {place : ℕ} (c : Walking p target ns text k at w place) where
-  pub walking_lined : Lined text place
-  walking_lined = c.lined
-
   module _ (l : Line) (d : LineAt ns text place l) where
     abbrev behind : List (List ℕ)
     behind = lines_of (drop l.next text)
@@ -133,14 +134,14 @@ module _ {p : Panel} {target : ℕ} {ns : List (List ℕ)} {text : List ℕ} {k 
           rest = c.rest ∙ rw old (onto_rest l.segment g pos);
         }
 
-    pub walking_other : (number : ℕ) → (l.slot ≡ k → ⊥) → number ≡ verdict p target w [] → Judged p target ns text k at (record { number = number; next = place })
+    pub walking_other : (l.slot ≡ k → ⊥) → Walked p target ns text k at w place
     unfolding routes_from
-    walking_other number ne e =
+    walking_other ne =
         let other : slot_of d.line ≡ k → ⊥ = λ z. ne (d.slot ∙ z) in
         let far : slot_of d.line ≡ suc k = go (eqb (slot_of d.line) (suc k)) refl other in
         let new : gathered ns (suc k) (lines_of (drop place text)) ≡ [] ∷ onto (segment_of ns d.line) (gathered ns (suc (suc k)) behind) = rw d.lines (new_line ns (suc k) d.line behind far) in
         record {
-          number = e ∙ sym (c.todo ∙ rw new);
+          whole = c.todo ∙ rw new;
           rest = c.rest;
           ahead = record { lined = c.lined; slots = c.slots; opens = rw d.lines (eq-eqb (slot_of d.line) (suc k) far) };
         }
@@ -149,21 +150,28 @@ module _ {p : Panel} {target : ℕ} {ns : List (List ℕ)} {text : List ℕ} {k 
         go true q n = eqb-true (slot_of d.line) (suc k) q
         go false q n = let z : suc (slot_of d.line) ≡ suc k = slots_then.follow (eqb-false (slot_of d.line) (suc k) q) in absurd (n (omega arith))
 
-  pub walking_ends : (n number : ℕ) → n ≡ length text → n ≤ place → number ≡ verdict p target w [] → Judged p target ns text k at (record { number = number; next = place })
+  pub walking_ends : length text ≤ place → Walked p target ns text k at w place
   unfolding routes_from gathered
-  walking_ends n number en le e =
-      let out : lines_of (drop place text) ≡ [] = lines_out text place (omega arith) in
+  walking_ends le =
+      let out : lines_of (drop place text) ≡ [] = lines_out text place le in
       record {
-        number = e ∙ sym (c.todo ∙ rw out);
+        whole = c.todo ∙ rw out;
         rest = c.rest;
         ahead = record { lined = c.lined; slots = c.slots; opens = rw out };
       }
 
+module _ {p : Panel} {target : ℕ} {ns : List (List ℕ)} {text : List ℕ} {k at : ℕ} {w : Seen} {place : ℕ} (c : Walked p target ns text k at w place) where
+  pub walked_on : 0 ≡ verdict p target w [] → Passed p target ns text k at place
+  walked_on e = record { none = e ∙ sym c.whole; rest = c.rest; ahead = c.ahead }
+
+  pub walked_refused : {n : ℕ} → n ≡ verdict p target w [] → n ≡ route_refusal p target (get_or (routes_from ns text k at) 0 [])
+  walked_refused e = e ∙ sym c.whole
+
 -- ---- route by route
 
-pub record RoutesFrom (s : List ℕ) (h : Header) (f : Family) (ns : List (List ℕ)) (text : List ℕ) (n place i : ℕ) : Type 0 where
+pub record RoutesFrom (s : List ℕ) (h : Header) (f : Family) (ns : List (List ℕ)) (text : List ℕ) (place i : ℕ) : Type 0 where
   pub ahead : Ahead text i place
-  pub left : i + length (routes_from ns text i place) ≡ n
+  pub left : i + length (routes_from ns text i place) ≡ f.count
   pub todo : routes_refusal (panel_of s) 0 (paths_of h s f.number) (routes_in ns (lines_of text)) ≡ routes_refusal (panel_of s) i (drop i (paths_of h s f.number)) (routes_from ns text i place)
 
 opens_first : (ls : List (List ℕ)) → slots_from 0 (map slot_of ls) ≡ true → opening 0 ls ≡ true
@@ -174,20 +182,17 @@ opens_first (l ∷ ls) h = go (eqb (slot_of l) 0) refl
     go true e = refl
     go false e = let z : suc (slot_of l) ≡ 0 = (slots_next 0 l ls h).follow (eqb-false (slot_of l) 0 e) in let y : ⊥ = omega arith in absurd y
 
-pub routes_start : {s : List ℕ} {h : Header} {f : Family} {ns : List (List ℕ)} {text : List ℕ} {n : ℕ} → text_ok text ≡ true → length (routes_in ns (lines_of text)) ≡ f.count → n ≡ f.count → RoutesFrom s h f ns text n 0 0
+pub routes_start : {s : List ℕ} {h : Header} {f : Family} {ns : List (List ℕ)} {text : List ℕ} → text_ok text ≡ true → length (routes_in ns (lines_of text)) ≡ f.count → RoutesFrom s h f ns text 0 0
 unfolding routes_from routes_in
-routes_start {s} {h} {f} {ns} {text} {n} ok e en =
+routes_start {s} {h} {f} {ns} {text} ok e =
     record {
       ahead = record { lined = text_lined text ok; slots = text_slots text ok; opens = opens_first (lines_of text) (text_slots text ok) };
-      left = omega (arith, e, en);
+      left = omega (arith, e);
       todo = refl;
     }
 
-module _ {s : List ℕ} {h : Header} {f : Family} {ns : List (List ℕ)} {text : List ℕ} {n place i : ℕ} (p : RoutesFrom s h f ns text n place i) where
-  pub routes_ahead : Ahead text i place
-  routes_ahead = p.ahead
-
-  pub routes_inside : i < n → place < length text
+module _ {s : List ℕ} {h : Header} {f : Family} {ns : List (List ℕ)} {text : List ℕ} {place i : ℕ} (p : RoutesFrom s h f ns text place i) where
+  pub routes_inside : i < f.count → place < length text
   unfolding routes_from gathered
   routes_inside lt = go (dec_lt place (length text))
     where
@@ -200,34 +205,33 @@ module _ {s : List ℕ} {h : Header} {f : Family} {ns : List (List ℕ)} {text :
           let z : ⊥ = omega arith in
           absurd z
 
-  module _ (g : Groups s h f) (eq : n ≡ f.count) (lt : i < n) (target : ℕ) (r : Passed) (et : target ≡ get_or (paths_of h s f.number) i 0) (j : Judged (panel_of s) target ns text i place r) where
+  module _ (g : Groups s h f) (lt : i < f.count) (target : ℕ) (et : target ≡ get_or (paths_of h s f.number) i 0) where
     here_at : routes_refusal (panel_of s) 0 (paths_of h s f.number) (routes_in ns (lines_of text))
-        ≡ at r.number i (routes_refusal (panel_of s) (i + 1) (drop (i + 1) (paths_of h s f.number)) (routes_from ns text (i + 1) r.next))
+        ≡ at (route_refusal (panel_of s) target (get_or (routes_from ns text i place) 0 [])) i (routes_refusal (panel_of s) (i + 1) (drop (i + 1) (paths_of h s f.number)) (drop 1 (routes_from ns text i place)))
     unfolding routes_refusal
     here_at =
         let l = family_length s h f g in
         let inside : i < length (paths_of h s f.number) = omega arith in
         let k = p.left in
         let some : 0 < length (routes_from ns text i place) = omega arith in
-        let split : routes_from ns text i place ≡ get_or (routes_from ns text i place) 0 [] ∷ routes_from ns text (suc i) r.next = drop-cons (routes_from ns text i place) 0 [] some ∙ rw j.rest in
-        p.todo ∙ rw (drop-cons (paths_of h s f.number) i 0 inside, split, ← et, ← j.number, add-one)
+        p.todo ∙ rw (drop-cons (paths_of h s f.number) i 0 inside, drop-cons (routes_from ns text i place) 0 [] some, ← et, add-one)
 
-    pub routes_again : r.number ≤ 0 → RoutesFrom s h f ns text n r.next (i + 1)
-    routes_again z =
+    pub routes_again : {next : ℕ} → Passed (panel_of s) target ns text i place next → RoutesFrom s h f ns text next (i + 1)
+    routes_again {next} j =
         let k = p.left in
         let d : length (drop 1 (routes_from ns text i place)) ≡ length (routes_from ns text i place) - 1 = length-drop 1 (routes_from ns text i place) in
-        let e : length (routes_from ns text (suc i) r.next) ≡ length (routes_from ns text i place) - 1 = ap length (sym j.rest) ∙ d in
+        let e : length (routes_from ns text (suc i) next) ≡ length (routes_from ns text i place) - 1 = ap length (sym j.rest) ∙ d in
         let m : i + 1 ≡ suc i = omega arith in
         record {
           ahead = rw m j.ahead;
           left = rw m (omega (arith, k, e));
-          todo = here_at ∙ at_none r.number i _ z;
+          todo = here_at ∙ rw (← j.none, j.rest, m);
         }
 
-    pub routes_found : 0 < r.number → record { number = r.number; place = i } ≡ routes_refusal (panel_of s) 0 (paths_at (panel_of s) f.number) (routes_in ns (lines_of text))
-    routes_found z = rw (paths_are s h f.number g.grouped.framed, here_at) (at_found r.number i _ z)
+    pub routes_found : (e : RouteRefusal) → number_of e ≡ route_refusal (panel_of s) target (get_or (routes_from ns text i place) 0 []) → record { number = number_of e; place = i } ≡ routes_refusal (panel_of s) 0 (paths_at (panel_of s) f.number) (routes_in ns (lines_of text))
+    routes_found e z = rw (paths_are s h f.number g.grouped.framed, here_at, ← z) (at_found (number_of e) i _ (some_number e))
 
-  pub routes_ends : Groups s h f → n ≤ i → record { number = 0; place = 0 } ≡ routes_refusal (panel_of s) 0 (paths_at (panel_of s) f.number) (routes_in ns (lines_of text))
+  pub routes_ends : Groups s h f → f.count ≤ i → record { number = 0; place = 0 } ≡ routes_refusal (panel_of s) 0 (paths_at (panel_of s) f.number) (routes_in ns (lines_of text))
   unfolding routes_refusal
   routes_ends g le =
       let k = p.left in

@@ -6,28 +6,20 @@ ghost use Rattle.image.specs.Inner.{Framed, Started, Groups};
 ghost use Rattle.image.specs.Panel.{panel_of, paths_at};
 ghost use Rattle.panel.specs.Inner.{Accepted};
 ghost use Rattle.evaluate.specs.Check.{leaves, routes_refusal};
+ghost use Rattle.routes.specs.Refusals.{refusal_of, refused_of};
 ghost use Rattle.names.specs.Names.{lines_of};
-ghost use Rattle.names.specs.Inner.{Table};
 ghost use Rattle.texts.specs.Bed.{text_ok, routes_in};
 ghost use Rattle.bed_routes.specs.Inner.{entered_by, joints_by, verdict, Begun, Onward, Ahead, Judged};
 
 // What has been seen of a route: the segment of its normal form at hand, joined so far, the one before it where there is some,
 // whether all segments as given were sound, whether the first entered its lane, and the first refusal of a joint.
-#[derive(Clone, Copy)]
+#[derive(Clone, Copy, PartialEq, Eq, Debug)]
 pub struct Seen {
     pub segment: evaluate::Segment,
-    pub before: evaluate::Segment,
-    pub some: bool,
+    pub before: Option<evaluate::Segment>,
     pub sound: bool,
     pub entered: bool,
-    pub number: u64,
-}
-
-// A route's refusal, and where the next route's first line stands.
-#[derive(Clone, Copy)]
-pub struct Passed {
-    pub number: u64,
-    pub next: usize,
+    pub joints: Result<(), routes::RouteRefusal>,
 }
 
 // ---- segment by segment
@@ -37,14 +29,12 @@ fn begun(image: &[u8], h: image::Header, s: evaluate::Segment) -> Seen
     requires { Framed image.now h }
     ensures { Begun (panel_of image.now) s result }
 {
-    let sound = routes::is_sound(image, h, s);
     Seen {
         segment: s,
-        before: s,
-        some: false,
-        sound,
+        before: None,
+        sound: routes::is_sound(image, h, s),
         entered: false,
-        number: 0,
+        joints: Ok(()),
     }
 }
 
@@ -53,27 +43,26 @@ fn entered_by(seen: Seen, target: usize) -> bool
     ensures { result ≡ entered_by target seen }
 {
     let s = seen.segment;
-    if seen.some {
-        seen.entered
-    } else {
-        routes::is_forward_at(s, target as u64, s.entry(), 0)
+    match seen.before {
+        Some(_) => seen.entered,
+        None => routes::is_forward_at(s, target as u64, s.entry(), 0),
     }
 }
 
 // 28, 29, 30: up to the joint before the segment at hand, where that is whole.
-fn joints_by(image: &[u8], h: image::Header, lane_starts: &[usize; 4096], seen: Seen) -> u64
+fn joints_by(
+    image: &[u8],
+    h: image::Header,
+    lane_starts: &[usize; 4096],
+    seen: Seen,
+) -> Result<(), routes::RouteRefusal>
     requires { Accepted image.now h × Started image.now h lane_starts.now }
-    ensures { result ≡ joints_by (panel_of image.now) seen }
+    ensures { refusal_of result ≡ joints_by (panel_of image.now) seen }
 {
-    let s = seen.before;
-    let t = seen.segment;
-    if 0 < seen.number {
-        return seen.number;
-    }
-    if seen.some {
-        routes::joint_refusal(image, h, lane_starts, s, t)
-    } else {
-        0
+    seen.joints?;
+    match seen.before {
+        Some(s) => routes::check_joint(image, h, lane_starts, s, seen.segment),
+        None => Ok(()),
     }
 }
 
@@ -89,29 +78,20 @@ fn onward(
     requires { Accepted image.now h × Started image.now h lane_starts.now }
     ensures { Onward (panel_of image.now) target seen t result }
 {
-    let s = seen.segment;
-    let before = seen.before;
-    let sound = ground::both(seen.sound, routes::is_sound(image, h, t));
-    if words::is_joinable(s, t) {
-        let segment = words::join(s, t);
+    let sound = seen.sound && routes::is_sound(image, h, t);
+    if words::is_joinable(seen.segment, t) {
         Seen {
-            segment,
-            before,
-            some: seen.some,
+            segment: words::join(seen.segment, t),
             sound,
-            entered: seen.entered,
-            number: seen.number,
+            ..seen
         }
     } else {
-        let entered = entered_by(seen, target);
-        let number = joints_by(image, h, lane_starts, seen);
         Seen {
             segment: t,
-            before: s,
-            some: true,
+            before: Some(seen.segment),
             sound,
-            entered,
-            number,
+            entered: entered_by(seen, target),
+            joints: joints_by(image, h, lane_starts, seen),
         }
     }
 }
@@ -132,115 +112,70 @@ fn judged(
     lane_starts: &[usize; 4096],
     target: usize,
     seen: Seen,
-) -> u64
+) -> Result<(), routes::RouteRefusal>
     requires { Accepted image.now h × Started image.now h lane_starts.now }
-    ensures { result ≡ verdict (panel_of image.now) target seen [] }
+    ensures { refusal_of result ≡ verdict (panel_of image.now) target seen [] }
 {
-    let s = seen.segment;
-    if seen.sound {
-        if ground::both(entered_by(seen, target), is_leaving(image, h, target, s)) {
-            joints_by(image, h, lane_starts, seen)
-        } else {
-            27
-        }
-    } else {
-        26
+    if !seen.sound {
+        return Err(routes::RouteRefusal::Span);
     }
+    if !entered_by(seen, target) || !is_leaving(image, h, target, seen.segment) {
+        return Err(routes::RouteRefusal::Ends);
+    }
+    joints_by(image, h, lane_starts, seen)
 }
 
 // ---- route by route
 
-// 25 to 30 of the route whose first line stands at a place: a route of a text has a line, so it is never 25.
-fn route_refusal(
+// 25 to 30 of the route whose first line stands at a place, or where the next route's first line stands: a route of a text has a line, so it is never 25.
+fn check_route(
     image: &[u8],
     h: image::Header,
     lane_starts: &[usize; 4096],
-    names: &[u8],
-    starts: &[usize; 4098],
-    ends: &[usize; 4098],
-    heads: &[usize; 4096],
-    links: &[usize; 4096],
+    table: &names::NameTable,
     text: &[u8],
     at: usize,
     slot: u64,
     target: usize,
-) -> Passed
-    requires { Accepted image.now h × Started image.now h lane_starts.now × Table names.now starts.now ends.now heads.now links.now h.lanes × Ahead text.now slot at × (at < length text.now) }
-    ensures { Judged (panel_of image.now) target (lines_of names.now) text.now slot at result }
+) -> Result<usize, routes::RouteRefusal>
+    requires { Accepted image.now h × Started image.now h lane_starts.now × Ahead text.now slot at × (at < length text.now) }
+    ensures { Judged (panel_of image.now) target (lines_of table.now.names.now) text.now slot at result }
 {
-    let n = text.len();
-    let first = texts::line_at(names, starts, ends, heads, links, h.lanes, text, at);
-    let s = first.segment;
-    let mut seen = begun(image, h, s);
+    let first = texts::line_at(table, text, at);
+    let mut seen = begun(image, h, first.segment);
     let mut place = first.next;
-    while place < n {
-        let l = texts::line_at(names, starts, ends, heads, links, h.lanes, text, place);
-        if l.slot == slot {
-            let t = l.segment;
-            seen = onward(image, h, lane_starts, target, seen, t);
-            place = l.next;
-        } else {
-            let number = judged(image, h, lane_starts, target, seen);
-            return Passed {
-                number,
-                next: place,
-            };
+    while place < text.len() {
+        let l = texts::line_at(table, text, place);
+        if l.slot != slot {
+            break;
         }
+        seen = onward(image, h, lane_starts, target, seen, l.segment);
+        place = l.next;
     }
-    let number = judged(image, h, lane_starts, target, seen);
-    Passed {
-        number,
-        next: place,
-    }
+    judged(image, h, lane_starts, target, seen)?;
+    Ok(place)
 }
 
 // 25 to 30, route by route, of the routes that a text holds, each against its path of the family.
-pub fn routes_refusal(
+pub fn check_routes(
     image: &[u8],
     h: image::Header,
     lane_starts: &[usize; 4096],
-    names: &[u8],
-    starts: &[usize; 4098],
-    ends: &[usize; 4098],
-    heads: &[usize; 4096],
-    links: &[usize; 4096],
+    table: &names::NameTable,
     text: &[u8],
     f: image::Family,
-) -> evaluate::Refusal
-    requires { Accepted image.now h × Started image.now h lane_starts.now × Groups image.now h f × Table names.now starts.now ends.now heads.now links.now h.lanes × (text_ok text.now ≡ true) × (length (routes_in (lines_of names.now) (lines_of text.now)) ≡ f.count) }
-    ensures { result ≡ routes_refusal (panel_of image.now) 0 (paths_at (panel_of image.now) f.number) (routes_in (lines_of names.now) (lines_of text.now)) }
+) -> Result<(), routes::RefusedRoute>
+    requires { Accepted image.now h × Started image.now h lane_starts.now × Groups image.now h f × (text_ok text.now ≡ true) × (length (routes_in (lines_of table.now.names.now) (lines_of text.now)) ≡ f.count) }
+    ensures { refused_of result ≡ routes_refusal (panel_of image.now) 0 (paths_at (panel_of image.now) f.number) (routes_in (lines_of table.now.names.now) (lines_of text.now)) }
 {
-    let n = f.count;
-    let mut at: usize = 0;
-    let mut i: usize = 0;
-    while i < n {
-        let next = i + 1;
+    let mut at = 0;
+    for i in 0..f.count {
         let target = image::family_path(image, h, f, i);
-        let p = route_refusal(
-            image,
-            h,
-            lane_starts,
-            names,
-            starts,
-            ends,
-            heads,
-            links,
-            text,
-            at,
-            i as u64,
-            target,
-        );
-        if 0 < p.number {
-            return evaluate::Refusal {
-                number: p.number,
-                place: i as u64,
-            };
+        let route = i as u64;
+        match check_route(image, h, lane_starts, table, text, at, route, target) {
+            Ok(next) => at = next,
+            Err(why) => return Err(routes::RefusedRoute { route, why }),
         }
-        at = p.next;
-        i = next;
     }
-    evaluate::Refusal {
-        number: 0,
-        place: 0,
-    }
+    Ok(())
 }

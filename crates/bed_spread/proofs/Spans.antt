@@ -1,9 +1,9 @@
 -- Laws of the spans: a segment outside the span of its lane shares no base with the earlier ones.
-use Prim.Native.Nat.{ℕ, ◌-◌, ◌%◌, ◌≤◌, ◌<◌, min, max}
+use Prim.Native.Nat.{ℕ, ◌%◌, ◌≤◌, ◌<◌, min, max}
 use native.Mathlib.Omega.{arith}
 use native.Mathlib.Nat.{min-le_left, min-le_right, le-max_left, le-max_right}
 use mathlib.Core.Path.{◌≡◌, refl, sym, ap, ap₂, ◌∙◌}
-use mathlib.Core.Bool.{Bool, true, false, not, ◌&&◌, true≢false}
+use mathlib.Core.Bool.{Bool, true, false, not, ◌&&◌}
 use mathlib.Core.List.{List, [], ◌∷◌, ◌++◌, map}
 use lib.Dec.{ltb, eqb}
 use lib.ListN.{length, drop, get_or, set, replicate, length-set, length-replicate, drop_of_length-le}
@@ -31,13 +31,6 @@ use Rattle.bed_spread.specs.Inner.{Widened}
 span_small : (s : Segment) → bucket s < 4096
 unfolding bucket
 span_small s = omega arith
-
-module _ (lows tops : List ℕ) (s : Segment) (b : ℕ) (eb : b ≡ bucket s) (r : Bool) (er : r ≡ outside s (get_or lows b 0) (get_or tops b 0)) where
-  pub widen_done : (low top : ℕ) → low ≡ min (get_or lows b 0) s.start → top ≡ max (get_or tops b 0) s.end → r ≡ true → Widened lows tops s (set lows b low) (set tops b top) true
-  widen_done low top el et z = record { off = λ q. rw (← eb) (sym er ∙ z); down = λ q. rw (← eb, el); up = λ q. rw (← eb, et) }
-
-pub widen_met : (lows tops : List ℕ) (s : Segment) → Widened lows tops s lows tops false
-widen_met lows tops s = record { off = λ q. absurd (true≢false (sym q)); down = λ q. absurd (true≢false (sym q)); up = λ q. absurd (true≢false (sym q)) }
 
 -- ---- the earlier ones
 
@@ -151,13 +144,7 @@ append_nothing [] = refl
 append_nothing (t ∷ l) = ap (λ (k : List Segment). t ∷ k) (append_nothing l)
 
 module _ {ns : List (List ℕ)} {text lows tops : List ℕ} {at : ℕ} (p : Spreading ns text lows tops at) where
-  pub spreading_lined : Lined text at
-  spreading_lined = p.lined
-
   module _ (l : Line) (d : LineAt ns text at l) where
-    pub spreading_less : (n : ℕ) → at < n → n - l.next < n - at
-    spreading_less n h = let f = d.further in omega arith
-
     here : map (segment_of ns) (lines_of (drop at text)) ≡ l.segment ∷ map (segment_of ns) (lines_of (drop l.next text))
     here = ap (map (segment_of ns)) d.lines ∙ ap (λ (s : Segment). s ∷ map (segment_of ns) (lines_of (drop l.next text))) (sym d.segment)
 
@@ -177,10 +164,7 @@ module _ {ns : List (List ℕ)} {text lows tops : List ℕ} {at : ℕ} (p : Spre
           within = inside_more lows tops p.low_lanes p.top_lanes s p.seen p.within;
         })
 
-  pub spreading_ends : (n : ℕ) → n ≡ length text → n ≤ at → true ≡ true → apart (map (segment_of ns) (lines_of text)) ≡ true
-  spreading_ends n e h q =
+  pub spreading_ends : length text ≤ at → apart (map (segment_of ns) (lines_of text)) ≡ true
+  spreading_ends h =
       let z : map (segment_of ns) (lines_of (drop at text)) ≡ [] = ap (λ (k : List ℕ). map (segment_of ns) (lines_of k)) (drop_of_length-le text {i = at} (omega arith)) ∙ ap (map (segment_of ns)) lines_nothing in
       ap apart (sym p.same ∙ ap (λ (m : List Segment). p.seen ++ m) z ∙ append_nothing p.seen) ∙ p.off
-
-pub never : {A : Type 0} → false ≡ true → A
-never q = absurd (true≢false (sym q))

@@ -4,7 +4,6 @@
 ghost use Rattle.std.specs.Prelude.{◌≡◌, true, map};
 ghost use Rattle.evaluate.specs.Segments.{apart};
 ghost use Rattle.names.specs.Names.{lines_of};
-ghost use Rattle.names.specs.Inner.{Table};
 ghost use Rattle.rows.specs.Rows.{segment_of};
 ghost use Rattle.texts.specs.Inner.{Lined};
 ghost use Rattle.bed_spread.specs.Inner.{Widened};
@@ -14,41 +13,23 @@ fn widen(lows: &mut [u64; 4096], tops: &mut [u64; 4096], s: evaluate::Segment) -
     ensures { Widened lows.old tops.old s lows.new tops.new result }
 {
     let b = overlap::chain_of(s);
-    let low = lows[b];
-    let top = tops[b];
-    if overlap::is_outside(s, low, top) {
-        lows[b] = words::lesser(low, s.start);
-        tops[b] = overlap::greater(top, s.end);
-        true
-    } else {
-        false
+    if !overlap::is_outside(s, lows[b], tops[b]) {
+        return false;
     }
+    lows[b] = lows[b].min(s.start);
+    tops[b] = tops[b].max(s.end);
+    true
 }
 
 // Whether each segment of a text's lines lies before or behind all earlier ones of its lane: then no two share a base.
-pub fn is_spread(
-    names: &[u8],
-    starts: &[usize; 4098],
-    ends: &[usize; 4098],
-    heads: &[usize; 4096],
-    links: &[usize; 4096],
-    lanes: usize,
-    text: &[u8],
-) -> bool
-    requires { Table names.now starts.now ends.now heads.now links.now lanes × Lined text.now 0 }
-    ensures { result ≡ true → apart (map (segment_of (lines_of names.now)) (lines_of text.now)) ≡ true }
+pub fn is_spread(table: &names::NameTable, text: &[u8]) -> bool
+    requires { Lined text.now 0 }
+    ensures { result ≡ true → apart (map (segment_of (lines_of table.now.names.now)) (lines_of text.now)) ≡ true }
 {
-    let n = text.len();
-    let mut lows = overlap::no_lows();
-    let mut tops = overlap::no_tops();
-    let mut at: usize = 0;
-    while at < n {
-        let l = texts::line_at(names, starts, ends, heads, links, lanes, text, at);
-        let s = l.segment;
-        let next = l.next;
-        if widen(&mut lows, &mut tops, s) {
-            at = next;
-        } else {
+    let mut lows = [u64::MAX; 4096];
+    let mut tops = [0; 4096];
+    for l in texts::Lines::of(*table, text) {
+        if !widen(&mut lows, &mut tops, l.segment) {
             return false;
         }
     }

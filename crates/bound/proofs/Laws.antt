@@ -1,11 +1,12 @@
 -- What the code's tests and loops come to, over plain variables.
-use mathlib.Core.Path.{◌≡◌, refl, sym, ◌∙◌}
+use mathlib.Core.Path.{◌≡◌, refl, sym, ap, ◌∙◌}
 use Prim.Native.Nat.{ℕ, zero, suc, ◌+◌, ◌*◌, ◌^◌, ◌≤◌, ◌<◌}
 use native.Mathlib.Nat.{zero-mul, mul-pos, zero-lt-suc}
 use native.Mathlib.Numerals.{add-one}
 use native.Mathlib.Omega.{arith}
 use mathlib.Core.Bool.{Bool, true, false, ◌&&◌, false≢true}
-use mathlib.Core.List.{List}
+use mathlib.Core.List.{List, [], ◌∷◌}
+use Rattle.std.specs.List.{list_all}
 use lib.IntN.{pos}
 use lib.Dec.{T, ltb, le→leb}
 use lib.ListN.{length, drop, get_or, drop_of_length-le}
@@ -15,10 +16,10 @@ use lib.Ieee.{Float, nan, inf, fin, binary64, up, down, round, fits, of_int, in_
 use lib.Ieee.Fits.{up_pos, round-fits}
 use lib.Ieee.Scale.{finite}
 use lib.Ieee.Positive.{positive, first_pos}
-use borrow.Author.Tests.{ltb-true, ltb-false, lt-ltb, le-ltb}
+use borrow.Author.Tests.{ltb-true, ltb-false, lt-ltb}
 use Rattle.doubles.specs.NextDouble.{next_up, next_down}
 use Rattle.doubles.proofs.Outward.{round_plus, next_above}
-use Rattle.bound.specs.Bound.{upper, term, after, some, no_bound, zero64, counts_ok, bound_from, lower_bound}
+use Rattle.bound.specs.Bound.{upper, term, after, some, no_bound, zero64, counts_ok, bound_from}
 
 -- ---- the background's test
 pub above_zero : (x : Float) → Ieee.lt zero64 x ≡ true → finite x ≡ positive x
@@ -57,6 +58,11 @@ unfolding after
 after_under background bound c f k h = rw (upper_above background c f k, h)
 
 -- ---- the counts, one after the other
+pub all_counts : (l : List ℕ) → list_all (λ n. ltb n (2 ^ 53)) l ≡ counts_ok l
+unfolding counts_ok
+all_counts [] = refl
+all_counts (n ∷ l) = ap (λ b. ltb n (2 ^ 53) && b) (all_counts l)
+
 module _ (l : List ℕ) (i : ℕ) (h : i < length l) where
   counts_step : counts_ok (drop i l) ≡ (ltb (get_or l i 0) (2 ^ 53) && counts_ok (drop (i + 1) l))
   unfolding counts_ok
@@ -64,9 +70,6 @@ module _ (l : List ℕ) (i : ℕ) (h : i < length l) where
 
   pub counts_on : get_or l i 0 < 2 ^ 53 → counts_ok (drop i l) ≡ counts_ok (drop (i + 1) l)
   counts_on k = counts_step ∙ rw (lt-ltb (get_or l i 0) (2 ^ 53) k)
-
-  pub counts_stop : 2 ^ 53 ≤ get_or l i 0 → false ≡ counts_ok (drop i l)
-  counts_stop k = sym (counts_step ∙ rw (le-ltb (get_or l i 0) (2 ^ 53) k))
 
   pub from_on : (background bound next : Float) (f : Bool) → next ≡ after background bound (get_or l i 0) → f ≡ finite next → f ≡ true
       → bound_from background bound (drop i l) ≡ bound_from background next (drop (i + 1) l)
@@ -76,10 +79,6 @@ module _ (l : List ℕ) (i : ℕ) (h : i < length l) where
   pub from_stop : (background bound next : Float) (f : Bool) → next ≡ after background bound (get_or l i 0) → f ≡ finite next → f ≡ false → no_bound 0 ≡ bound_from background bound (drop i l)
   unfolding bound_from
   from_stop background bound next f p q k = rw (drop-cons l i 0, ← p, ← q, k)
-
-pub counts_end : (l : List ℕ) (i : ℕ) → length l ≤ i → true ≡ counts_ok (drop i l)
-unfolding counts_ok
-counts_end l i h = rw (drop_of_length-le l h)
 
 pub from_end : (background bound : Float) (l : List ℕ) (i : ℕ) → length l ≤ i → some bound ≡ bound_from background bound (drop i l)
 unfolding bound_from
@@ -96,16 +95,3 @@ in-range l i h k = go (ltb (get_or l i 0) (2 ^ 53)) (counts_ok (drop (i + 1) l))
 pub casts : (n : ℕ) → n < 2 ^ 53 → T (in_float binary64 (pos n))
 unfolding in_float
 casts n h = le→leb n (2 ^ 53) (omega arith)
-
--- ---- the whole call
-pub call_refused : (background : Float) (counts : List ℕ) → positive background ≡ false → no_bound 43 ≡ lower_bound counts background
-unfolding lower_bound
-call_refused background counts h = rw h
-
-pub call_counts : (background : Float) (counts : List ℕ) → positive background ≡ true → counts_ok counts ≡ false → no_bound 43 ≡ lower_bound counts background
-unfolding lower_bound
-call_counts background counts h k = rw (h, k)
-
-pub call_bound : (background : Float) (counts : List ℕ) → positive background ≡ true → counts_ok counts ≡ true → bound_from background zero64 counts ≡ lower_bound counts background
-unfolding lower_bound
-call_bound background counts h k = rw (h, k)

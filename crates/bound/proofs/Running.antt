@@ -78,5 +78,5 @@ holds counts background = record {
     all = bound_from background zero64 counts
 
 -- so of any reply that is the definition's
-pub answered : (counts : List ℕ) (background : Float) (r : BoundReply) → r ≡ lower_bound counts background → (r ≡ lower_bound counts background) × BoundHolds counts background r
-answered counts background r q = (q, subst (λ (z : BoundReply). BoundHolds counts background z) (sym q) (holds counts background))
+pub bound_holds : (counts : List ℕ) (background : Float) (r : BoundReply) → r ≡ lower_bound counts background → BoundHolds counts background r
+bound_holds counts background r q = subst (λ (z : BoundReply). BoundHolds counts background z) (sym q) (holds counts background)

@@ -1,10 +1,12 @@
 -- The lower bound of evaluate.rs, from counts and a background: each operation on doubles is followed by a step to the next double outward.
-use Rattle.std.specs.Prelude.{ℕ, ◌^◌, Bool, true, false, ◌&&◌, cond, List, [], ◌∷◌, ltb, pos, Float}
+use Rattle.std.specs.Prelude.{ℕ, ◌^◌, Bool, true, false, ◌&&◌, cond, List, [], ◌∷◌, ltb, pos, Float, Option, Some, None, Result, Ok, Err}
 use Rattle.std.specs.Float.{fin, binary64}
 use Rattle.std.specs.Float.Ieee.{of_int, sub, mul, div, lt}
 use Rattle.std.specs.Float.Ieee.Scale.{finite}
 use Rattle.std.specs.Float.Ieee.Positive.{positive}
 use Rattle.bound.specs.declared.BoundReply.{BoundReply}
+use Rattle.bound.specs.declared.BoundError.{BoundError}
+use Rattle.bound.specs.declared.BoundError.TheVariants.{OutOfRange}
 use Rattle.doubles.specs.NextDouble.{next_up, next_down}
 
 -- A count as a double, and a step up.
@@ -50,3 +52,12 @@ in_range counts background = positive background && counts_ok counts
 -- The bound begins at 0.0. What is out of range is refused before anything is computed.
 unfoldable pub lower_bound : List ℕ → Float → BoundReply
 lower_bound counts background = cond (in_range counts background) (bound_from background zero64 counts) (no_bound 43)
+
+-- ---- what the code has of an answer before it is a reply: a bound, no bound, or out of range
+abbrev pub refusal_number : BoundError → ℕ
+refusal_number OutOfRange = 43
+
+abbrev pub reply_of : Result (Option Float) BoundError → BoundReply
+reply_of (Ok (Some x)) = some x
+reply_of (Ok None) = no_bound 0
+reply_of (Err e) = no_bound (refusal_number e)

@@ -2,9 +2,9 @@
 // outward. Refusal 43.
 #![tactic(auto)]
 
-ghost use Rattle.std.specs.Prelude.{◌≡◌, true, ◌^◌, ◌<◌};
+ghost use Rattle.std.specs.Prelude.{◌≡◌, true, ◌^◌, ◌<◌, Ok};
 ghost use Rattle.std.specs.Float.Ieee.Positive.{positive};
-ghost use Rattle.bound.specs.Bound.{term, after, zero64, no_bound, counts_ok, bound_from, lower_bound};
+ghost use Rattle.bound.specs.Bound.{term, after, zero64, no_bound, counts_ok, bound_from, lower_bound, refusal_number, reply_of};
 ghost use Rattle.bound.specs.Bounded.{BoundHolds};
 
 // Refusal 43, or 0; given 1: a bound, 0: none. Fields that an answer does not use are 0.
@@ -20,14 +20,20 @@ pub struct BoundReply {
 // Counts are below 2^53: each is a double exactly.
 const COUNTS: u64 = 0x20_0000_0000_0000;
 
-fn no_bound(refusal: u64) -> BoundReply
-    ensures { result ≡ no_bound refusal }
-{
-    BoundReply {
-        refusal,
-        place: 0,
-        given: 0,
-        bound: 0.0,
+// Why a call is refused: a background that is not finite and above 0, or a count of 2^53 or more.
+#[derive(Clone, Copy, PartialEq, Eq, Debug)]
+enum BoundError {
+    OutOfRange,
+}
+
+impl BoundError {
+    // Its refusal.
+    fn number(self) -> u64
+        ensures { result ≡ refusal_number self }
+    {
+        match self {
+            BoundError::OutOfRange => 43,
+        }
     }
 }
 
@@ -35,26 +41,16 @@ fn no_bound(refusal: u64) -> BoundReply
 fn is_background(x: f64) -> bool
     ensures { result ≡ positive x }
 {
-    if 0.0 < x {
-        doubles::is_finite(x)
-    } else {
-        false
-    }
+    0.0 < x && doubles::is_finite(x)
 }
 
 fn are_counts(counts: &[u64]) -> bool
     ensures { result ≡ counts_ok counts.now }
 {
-    let mut i: usize = 0;
-    while i < counts.len() {
-        if counts[i] >= COUNTS {
-            return false;
-        }
-        i += 1;
-    }
-    true
+    counts.iter().all(|count| *count < COUNTS)
 }
 
+#[tactic(auto, unfolding(crate::specs::Bound::term))]
 fn term_of(background: f64, upper: f64) -> f64
     ensures { result ≡ term background upper }
 {
@@ -77,36 +73,64 @@ fn after_count(background: f64, bound: f64, count: u64) -> f64
     }
 }
 
-fn bound_of(counts: &[u64], background: f64) -> BoundReply
+// None as soon as the running bound is not finite.
+fn bound_of(counts: &[u64], background: f64) -> Option<f64>
     requires background_value { positive background ≡ true }
     requires counts_value { counts_ok counts.now ≡ true }
-    ensures { result ≡ bound_from background zero64 counts.now }
+    ensures { reply_of (Ok result) ≡ bound_from background zero64 counts.now }
 {
     let mut bound = 0.0;
-    let mut i: usize = 0;
-    while i < counts.len() {
-        bound = after_count(background, bound, counts[i]);
+    for count in counts {
+        bound = after_count(background, bound, *count);
         if !doubles::is_finite(bound) {
-            return no_bound(0);
+            return None;
         }
-        i += 1;
     }
+    Some(bound)
+}
+
+#[tactic(auto, unfolding(crate::specs::Bound::lower_bound))]
+fn bound_in_range(counts: &[u64], background: f64) -> Result<Option<f64>, BoundError>
+    ensures { reply_of result ≡ lower_bound counts.now background }
+{
+    if is_background(background) && are_counts(counts) {
+        Ok(bound_of(counts, background))
+    } else {
+        Err(BoundError::OutOfRange)
+    }
+}
+
+fn reply_of(bound: Result<Option<f64>, BoundError>) -> BoundReply
+    ensures { result ≡ reply_of bound }
+{
+    match bound {
+        Ok(Some(bound)) => BoundReply {
+            refusal: 0,
+            place: 0,
+            given: 1,
+            bound,
+        },
+        Ok(None) => no_bound(0),
+        Err(e) => no_bound(e.number()),
+    }
+}
+
+fn no_bound(refusal: u64) -> BoundReply
+    ensures { result ≡ no_bound refusal }
+{
     BoundReply {
-        refusal: 0,
+        refusal,
         place: 0,
-        given: 1,
-        bound,
+        given: 0,
+        bound: 0.0,
     }
 }
 
 // The lower bound, from lent counts and a background.
+#[tactic(auto, using(crate::proofs::Running::bound_holds))]
 pub fn lower_bound(counts: &[u64], background: f64) -> BoundReply
     ensures value { result ≡ lower_bound counts.now background }
     ensures bound_holds { BoundHolds counts.now background result }
 {
-    if is_background(background) && are_counts(counts) {
-        bound_of(counts, background)
-    } else {
-        no_bound(43)
-    }
+    reply_of(bound_in_range(counts, background))
 }

@@ -1,19 +1,24 @@
 -- The most paths of a family, and sizes that fit.
-use Prim.Native.Nat.{ℕ, zero, suc, ◌+◌, ◌*◌, ◌≤◌, ◌<◌, max}
-use native.Mathlib.Nat.{max-zero, zero-max, suc-max-suc, max-le, mul-le-mul_right}
+use Prim.Native.Nat.{ℕ, ◌+◌, ◌*◌, ◌≤◌, ◌<◌, max}
+use native.Mathlib.Nat.{max-zero, max-le, mul-le-mul_right}
 use native.Mathlib.Omega.{arith}
 use mathlib.Core.Path.{◌≡◌, refl, sym, ap, ap₂, ◌∙◌}
 use mathlib.Core.Bool.{Bool, true, false, ◌&&◌}
-use mathlib.Core.List.{List, [], ◌∷◌}
+use mathlib.Core.List.{List, [], ◌∷◌, map}
 use lib.Dec.{leb, ltb}
-use lib.ListN.{length, drop, get_or, length-drop, drop_of_length-le}
+use lib.ListN.{length, drop, get_or, length-drop}
 use lib.Seq.{length-take-le}
 use borrow.Author.Tests.{leb-true, ltb-true}
+use Rattle.std.specs.declared.option.Option.{Option}
+use Rattle.std.specs.List.{fold, reduce, range_with_len}
+use Rattle.std.specs.Option.{option_map, unwrap_or}
+use Rattle.std.proofs.lemmas.List.FromFn.{fill_by_all}
+use Rattle.std.proofs.lemmas.Iterator.Adapters.{option_map_id}
 use mir.Val.{Fits}
 use mir.Syntax.{w64}
 use borrow.Author.Rules.{Fits-under}
 use Rattle.ground.specs.Lists.{split, sum}
-use Rattle.ground.proofs.ListLaws.{both, drop_next_of}
+use Rattle.ground.proofs.ListLaws.{both}
 use Rattle.evaluate.specs.declared.Refusal.{Refusal}
 use Rattle.evaluate.specs.Refusals.{at, unless}
 use Rattle.image.specs.declared.Header.{Header}
@@ -46,38 +51,27 @@ most_paths_are : (s : List ℕ) (h : Header) → Grouped s h → most_paths (fam
 unfolding families
 most_paths_are s h g = most_split (path_counts h s) (paths h s) (omega (arith, g.total, paths_length s h))
 
-max_swap : (a b c : ℕ) → max a (max b c) ≡ max (max a b) c
-max_swap zero b c = zero-max (max b c) ∙ ap (λ (n : ℕ). max n c) (sym (zero-max b))
-max_swap (suc a) zero c = ap (max (suc a)) (zero-max c) ∙ ap (λ (n : ℕ). max n c) (sym (max-zero (suc a)))
-max_swap (suc a) (suc b) zero = ap (max (suc a)) (max-zero (suc b)) ∙ sym (max-zero (max (suc a) (suc b)))
-max_swap (suc a) (suc b) (suc c) = simp suc-max-suc (ap suc (max_swap a b c))
+-- what a chain over the path counts answers
+fold_most : (n : ℕ) (ns : List ℕ) → fold max n ns ≡ max n (most_of ns)
+unfolding most_of
+fold_most n [] = sym (max-zero n)
+fold_most n (m ∷ ns) = fold_most (max n m) ns ∙ omega arith
 
--- i path counts are done
-pub record Most (s : List ℕ) (h : Header) (n most i : ℕ) : Type 0 where
-  pub far : i ≤ n
-  pub rest : max most (most_of (drop i (path_counts h s))) ≡ most_of (path_counts h s)
+pub most_is : (ns : List ℕ) → unwrap_or (reduce max ns) 0 ≡ most_of ns
+unfolding most_of
+most_is [] = refl
+most_is (n ∷ ns) = fold_most n ns
 
-pub most_none : (s : List ℕ) (h : Header) (n : ℕ) → Most s h n 0 0
-most_none s h n = record { far = omega arith; rest = zero-max (most_of (path_counts h s)) }
-
-module _ {s : List ℕ} {h : Header} {n most i : ℕ} where
-  pub most_more : {count most' : ℕ} → Most s h n most i → i < n → n ≡ h.families → count ≡ get_or (path_counts h s) i 0 → most' ≡ max most count → Most s h n most' (i + 1)
-  unfolding most_of
-  most_more {count} {most'} p l e c m =
-      let room : i < length (path_counts h s) = omega (arith, path_counts_length s h) in
-      let step : most_of (drop i (path_counts h s)) ≡ max (get_or (path_counts h s) i 0) (most_of (drop (i + 1) (path_counts h s))) = rw (drop_next_of 0 (path_counts h s) i room) in
-      record { far = omega arith; rest = rw (m, c) (sym (ap (max most) step ∙ max_swap most (get_or (path_counts h s) i 0) (most_of (drop (i + 1) (path_counts h s)))) ∙ p.rest) }
-
-  pub most_all : Grouped s h → Most s h n most i → n ≤ i → n ≡ h.families → most ≡ most_paths (families h s)
-  unfolding most_of
-  most_all g p l e =
-      let none : drop i (path_counts h s) ≡ [] = drop_of_length-le (path_counts h s) {i = i} (omega (arith, path_counts_length s h)) in
-      sym (max-zero most) ∙ sym (ap (λ (t : List ℕ). max most (most_of t)) none) ∙ p.rest ∙ sym (most_paths_are s h g)
+pub most_found : {s : List ℕ} {h : Header} {r : ℕ} (o : Option ℕ) → Grouped s h → option_map (λ n. n) o ≡ reduce max (map (λ i. get_or (path_counts h s) i 0) (range_with_len 0 h.families)) → r ≡ unwrap_or o 0
+    → r ≡ most_paths (families h s)
+most_found {s} {h} o g e q =
+    let listed : path_counts h s ≡ map (λ i. get_or (path_counts h s) i 0) (range_with_len 0 h.families) = fill_by_all (λ i. get_or (path_counts h s) i 0) (path_counts h s) h.families 0 (path_counts_length s h) (λ k l. refl) in
+    q ∙ ap (λ (o : Option ℕ). unwrap_or o 0) (sym (option_map_id o) ∙ e) ∙ rw (← listed) (most_is (path_counts h s)) ∙ sym (most_paths_are s h g)
 
 -- ---- the width of a slot
 
-pub few-paths : {s : List ℕ} {h : Header} {most : ℕ} → Grouped s h → most ≡ most_paths (families h s) → most ≤ 262144
-few-paths {s} {h} {most} g e =
+pub paths_few : {s : List ℕ} {h : Header} {most : ℕ} → Grouped s h → most ≡ most_paths (families h s) → most ≤ 262144
+paths_few {s} {h} {most} g e =
     let a = most_sum (path_counts h s) in
     let b = most_paths_are s h g in
     let f : h.families ≤ 4096 = g.framed.few_families in
@@ -94,7 +88,7 @@ width_is {s} {h} b g e q = q ∙ rw e (sym (width_of s h b g))
 -- a panel's slots are no wider than this
 pub width_small : (s : List ℕ) (h : Header) (b : SearchBudget) → Grouped s h → Bounded b → slot_width (panel_of s) b ≤ most_width
 width_small s h b g k =
-    let p : most_paths (families h s) ≤ 262144 = few-paths g refl in
+    let p : most_paths (families h s) ≤ 262144 = paths_few g refl in
     let m : max b.max_frontier (most_paths (families h s)) ≤ 262144 = max-le (omega (arith, k.frontier)) p in
     rw (width_of s h b g) (omega arith)
 

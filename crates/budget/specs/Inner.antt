@@ -1,9 +1,22 @@
--- Refusal 13 from the width of a slot: what the contracts of this crate are written in.
-use Rattle.std.specs.Prelude.{ℕ, ◌+◌, ◌*◌, ◌≤◌, ◌&&◌, leb}
+-- Refusals 11 to 13, and 13 from the width of a slot: what the contracts of this crate are written in.
+use Rattle.std.specs.Prelude.{ℕ, ◌+◌, ◌*◌, ◌≤◌, ◌&&◌, leb, Result, Ok, Err}
 use Rattle.evaluate.specs.Refusals.{unless}
 use Rattle.search.specs.declared.SearchBudget.{SearchBudget}
 use Rattle.search.specs.Budget.{most_frontier, most_optima}
 use Rattle.search.specs.Rooms.{frames_needed, scores_needed}
+use Rattle.budget.specs.declared.BudgetRefusal.{BudgetRefusal}
+use Rattle.budget.specs.declared.BudgetRefusal.TheVariants.{Unsound, OverBound, ShortRoom}
+
+-- a refusal's number
+abbrev pub number_of : BudgetRefusal → ℕ
+number_of Unsound = 11
+number_of OverBound = 12
+number_of ShortRoom = 13
+
+-- the refusal's number, or 0
+abbrev pub refusal_of : {A : Type 0} → Result A BudgetRefusal → ℕ
+refusal_of (Ok a) = 0
+refusal_of (Err e) = number_of e
 
 -- refusal 12 has passed
 pub record Bounded (b : SearchBudget) : Type 0 where

@@ -7,7 +7,7 @@ use mathlib.Core.List.{List, [], ◌∷◌, ◌++◌, append_assoc, append-nil}
 use lib.Dec.{leb, ltb, eqb}
 use lib.ListN.{length, take, get_or, drop_of_length-le, length-take, length-append}
 use lib.Seq.{slice, slice-cons, slice_empty}
-use borrow.Author.Tests.{eq-eqb, ne_eqb, le-ltb, lt-ltb, ltb-false, leb-true, leb-false, eqb-true, eqb-false}
+use borrow.Author.Tests.{ne_eqb, le-ltb, lt-ltb, ltb-false, leb-true, leb-false, eqb-true, eqb-false}
 use Rattle.ground.specs.Lists.{pick}
 use Rattle.storage.specs.declared.Port.{Port}
 use Rattle.storage.specs.Records.{no_port}
@@ -18,7 +18,6 @@ use Rattle.image.specs.Image.{ports_of}
 use Rattle.image.specs.Inner.{Stands}
 use Rattle.image.specs.Panel.{Panel, panel_of, paths_at}
 use Rattle.image.proofs.Laws.{panel_ports, panel_hub, hub_length, row_length}
-use Rattle.panel.specs.Inner.{Accepted}
 use Rattle.evaluate.specs.declared.Segment.{Segment}
 use Rattle.search.specs.Walk.{Place, Frame, pass, down, give, Doing, doing, enter, unit_of, port_unit, terminal_task, member_task, moved, opening, next_port, spent, outgoing, hub_open, ports_here}
 use Rattle.search.specs.Walk.{onward, reach, on_path, same_place}
@@ -33,14 +32,14 @@ use Rattle.landings.specs.Inner.{Known}
 use Rattle.advance.specs.declared.Action.{Action}
 use Rattle.advance.specs.declared.Action.TheVariants.{Leave, Pass, Down, Give}
 use Rattle.advance.specs.declared.Turn.{Turn}
-use Rattle.advance.specs.Inner.{On, Child, Flagged, Sound, Meets, Turned, task_of, act_of, moved_to, entered}
+use Rattle.advance.specs.Inner.{On, Child, Flagged, Meets, Turned, task_of, act_of, moved_to, entered}
 use Rattle.advance.proofs.Laws.{enter_child, enter_alike, enter_sound, leave_none, leave_past}
 use Rattle.enumeration.proofs.Sim.{tasks_of, remaining, Good, Does, hub_tasks, unit_does, enter_tasks}
 use Rattle.enumeration.proofs.Stack.{enter_good}
 use Rattle.engine.specs.declared.Here.{Here}
 use Rattle.engine.specs.declared.Told.{Told}
 use Rattle.plain.specs.Steps.{Marks, gives, task_marks, hub_marks, place_marks, listed, goes_too_deep}
-use Rattle.engine.specs.Inner.{words_of, is_over, below, paths, next, come_to, place_tells, act_tells, hub_tells, ports_tell, through_marks, has_port, in_reach, Standing, Stepped, Given, Acts, InHand}
+use Rattle.engine.specs.Inner.{words_of, is_over, below, paths, next, come_to, place_tells, act_tells, hub_tells, ports_tell, through_marks, has_port, in_reach, Standing, Stepped, Given, InHand}
 use Rattle.plain.proofs.Marks.{or_true}
 use Rattle.plain.proofs.Height.{marks_through, marks}
 use Rattle.plain.proofs.Tasks.{place_is, hub-tasks}
@@ -399,10 +398,6 @@ through_same p paths g (down a ∷ ts) = ap (λ r. g a ++ r) (through_same p pat
 through_same p paths g (give x ∷ ts) = ap (λ r. gives x ∷ r) (through_same p paths g ts)
 
 module _ {s starts : List ℕ} {here : Here} {lane : Lane} {path slot out : List ℕ} {first : Stored} {l : Told} where
-  pub ports_start : {memo : List ℕ} → Standing s starts memo path slot out (below here) l → InHand s here lane path first → first.hub_end ≡ 0
-      → PortsGoing s starts here lane path slot out first l memo path slot out first l
-  ports_start a b e = record { onward = λ memo₂ p₂ s₂ o₂ q t. t; standing = a; hand = b; closed = e; long_path = refl; long_slot = refl; long_out = refl }
-
   module _ {memo₁ p₁ s₁ o₁ : List ℕ} {g : Stored} {r : Told} (going : PortsGoing s starts here lane path slot out first l memo₁ p₁ s₁ o₁ g r) (test : Bool) (is : test ≡ has_port r g.next lane.count) where
     pub test_some : test ≡ true → (0 < g.next) × (g.next ≤ lane.count)
     test_some e = go (is_over r) (eqb g.next 0) refl refl
@@ -486,21 +481,6 @@ module _ {s starts : List ℕ} {here : Here} {lane : Lane} {path slot out : List
 
 -- ---- the place
 
--- the hub is not in reach
-pub reach_shut : (f g : Stored) (clear : Bool) → clear ≡ false → g ≡ moved_to f f.next 0 0 → g ≡ in_reach f clear
-reach_shut f g clear e q = q ∙ rw e refl
-
--- a port's test
-module _ (l : Told) (n count : ℕ) (test : Bool) (is : test ≡ is_over l) where
-  pub port_over : test ≡ true → false ≡ has_port l n count
-  port_over e = rw (sym is ∙ e) refl
-
-  pub port_none : test ≡ false → n ≡ 0 → false ≡ has_port l n count
-  port_none v e = rw (sym is ∙ v, eq-eqb n 0 e) refl
-
-  pub port_some : test ≡ false → (n ≡ 0 → ⊥) → leb n count ≡ has_port l n count
-  port_some v f = rw (sym is ∙ v, ne_eqb n 0 f) refl
-
 place_through : (p : Panel) (paths : List ℕ) (d : ℕ) (a : Place) → place_marks p paths (suc d) a ≡ through_marks (place_marks p paths d) (tasks_of p paths a)
 place_through p paths d a =
     let e : marks (tasks_of p paths) d ≡ place_marks p paths d = λ i b. sym (place_is p paths d b) i in
@@ -537,9 +517,6 @@ module _ (s starts path slot out : List ℕ) (here : Here) (c : Stored) (l : Tol
 
     room_here : (top₁ + 1) * frame_width ≤ length path
     room_here = let r = stand.room in omega arith
-
-    pub put_room : (top₁ + 1) * frame_width ≤ length path
-    put_room = room_here
 
     pub place_standing : Standing s starts memo path₁ slot out (below here) l
     place_standing =
@@ -606,9 +583,6 @@ module _ (s starts path slot out : List ℕ) (here : Here) (c : Stored) (l : Tol
         does_end : Does (panel_of s) (paths_at (panel_of s) family₁.number) (frame_with A f) (doing (terminal_task (panel_of s) (paths_at (panel_of s) family₁.number) (place_with A f)) (moved (frame_with A f) f.next f.hub_next f.hub_end))
         does_end = subst (Does (panel_of s) (paths_at (panel_of s) family₁.number) (frame_with A f)) unit_ends (unit_does (panel_of s) (paths_at (panel_of s) family₁.number) (frame_with A f) good_here)
 
-        pub place_acts : Acts s here t.action
-        place_acts = record { child = turned.child }
-
         hand_first : InHand s here lane path₁ t.frame
         hand_first =
             let o = place_on in
@@ -666,10 +640,6 @@ module _ (s starts path slot out : List ℕ) (here : Here) (c : Stored) (l : Tol
 -- ---- what the calls ask
 
 module _ {s : List ℕ} {here : Here} {lane : Lane} {path : List ℕ} {g : Stored} where
-  pub meet_ready : InHand s here lane path g → g.hub_next < g.hub_end
-      → Accepted s here.h × Stands s here.h lane × (lane.number ≡ g.source) × Sound s here.h here.family.count g × (g.hub_next < g.hub_end)
-  meet_ready a n = let o = a.on in (o.accepted, o.stands, o.here, o.sound, n)
-
   pub hub_few : InHand s here lane path g → g.hub_end ≤ 4194304
   hub_few a = let x = a.on.sound.hub in let y = a.on.accepted.counted.framed.few_ports in omega arith
 

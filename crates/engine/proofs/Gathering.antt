@@ -16,13 +16,12 @@ use Rattle.enumeration.proofs.Room.{encode_length}
 use Rattle.landings.specs.Inner.{Known}
 use Rattle.walks.specs.Inner.{assigned}
 use Rattle.listing.specs.declared.Listing.{Listing}
-use Rattle.listing.specs.Inner.{Handed, Entered}
 use Rattle.frames.specs.declared.Stored.{Stored}
 use Rattle.plain.proofs.Marks.{listed_join, deep_join}
 use Rattle.engine.specs.declared.Here.{Here}
 use Rattle.engine.specs.declared.Told.{Told}
 use Rattle.plain.specs.Steps.{Mark, Marks, listed, goes_too_deep}
-use Rattle.engine.specs.Inner.{slot_words, assignment_of, words_of, is_over, Gathered, Tells, Standing, Stepped, Given, InHand}
+use Rattle.engine.specs.Inner.{slot_words, assignment_of, words_of, is_over, Gathered, Tells, Standing, Stepped, InHand}
 
 -- ---- lists
 
@@ -67,9 +66,6 @@ module _ {xs ys zs : List ℕ} {l m r : Listing} where
         within = b.within;
         few = b.few;
       }
-
-handed_gathered : {ws xs ys : List ℕ} {l r : Listing} → Handed ws xs ys l r → Gathered (ws ∷ []) xs ys l r
-handed_gathered h = record { room = h.room; written = h.written; words = h.words; long = h.long; within = h.within; few = h.few }
 
 -- nothing more fits
 gathered_full : {xs : List ℕ} {l : Listing} (ws : List (List ℕ)) → l.full ≡ true → l.words ≤ length xs → l.written ≤ l.words → Gathered ws xs xs l l
@@ -204,11 +200,3 @@ assigned_few family xs top s n h k =
     let w : length (flat (a.routes ++ ((a.route ++ (s ∷ [])) ∷ []))) ≡ length (pieces xs top) + 1 = ap length q ∙ length-append (pieces xs top) (s ∷ []) in
     let v = pieces_length xs top in
     omega arith
-
-module _ (family : ℕ) (path slot out : List ℕ) (top : ℕ) (s : Segment) (l : Told) where
-  pub given_told : (slot' out' : List ℕ) (n : ℕ) (x : Listing) → Entered (assigned family path top s) slot out slot' out' l.listing x → length slot' ≡ length slot
-      → Given family path slot out top s l slot' out' (record { listing = x; looks = l.looks; deep = l.deep })
-  given_told slot' out' n x h e = record { lists = handed_gathered h.handed; deep = refl; looks = refl; long_slot = e }
-
-  pub given_full : l.listing.full ≡ true → l.listing.words ≤ length out → l.listing.written ≤ l.listing.words → Given family path slot out top s l slot out l
-  given_full e h k = record { lists = gathered_full (encode (assigned family path top s) ∷ []) e h k; deep = refl; looks = refl; long_slot = refl }

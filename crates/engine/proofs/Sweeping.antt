@@ -10,10 +10,11 @@ use lib.ListN.{length, take, drop, get_or}
 use Rattle.ground.specs.Lists.{pick, sum}
 use Rattle.image.specs.declared.Header.{Header}
 use Rattle.image.specs.declared.Family.{Family}
-use Rattle.image.specs.declared.Opened.{Opened}
-use Rattle.image.specs.declared.Opened.TheVariants.{Good, Refused}
-use Rattle.image.specs.Image.{path_counts, paths_of}
-use Rattle.image.specs.Inner.{Started, Groups}
+use Rattle.image.specs.declared.PanelRefusal.{PanelRefusal}
+use Rattle.image.specs.Header.{refusal_number}
+use Rattle.std.specs.declared.result.Result.{Result}
+use Rattle.std.specs.declared.result.Result.TheVariants.{Ok, Err}
+use Rattle.image.specs.Image.{path_counts}
 use Rattle.image.specs.Panel.{Panel, panel_of, paths_at}
 use Rattle.image.proofs.Laws.{panel_families, families_length}
 use Rattle.panel.specs.Inner.{Accepted}
@@ -27,28 +28,17 @@ use Rattle.frames.specs.declared.Stored.{Stored}
 use Rattle.frames.specs.Inner.{no_path, frame_with}
 use Rattle.frames.proofs.Laws.{frame_root}
 use Rattle.landings.specs.Inner.{Known}
-use Rattle.advance.proofs.Laws.{paths_are, path_named, path_some}
 use Rattle.listing.specs.Inner.{lists_from, filled_with, to_list, none_listed}
 use Rattle.engine.specs.declared.Here.{Here}
 use Rattle.engine.specs.declared.Told.{Told}
 use Rattle.engine.specs.declared.PlainReply.{PlainReply}
 use Rattle.plain.specs.Steps.{depth, Mark, Marks, gives, too_deep, listed, goes_too_deep, place_marks, of_family, family_marks, marks_from, plain_marks, plain_list, plain_refusal}
-use Rattle.engine.specs.Inner.{assignment_of, words_of, looking, listing_from, Gathered, Standing, Stepped, come_to, place_tells, Rooted, Ample, Swept, Replied}
+use Rattle.engine.specs.Inner.{assignment_of, words_of, looking, listing_from, Gathered, Stepped, come_to, place_tells, Rooted, Ample, Swept, Replied}
 use Rattle.engine.specs.Answer.{plain_answer, plain_out}
 use borrow.Author.Tests.{ne_eqb}
-use Rattle.evaluate.proofs.Native.{checked_none}
+use Rattle.graph.proofs.Laws.{refusal_some}
 use Rattle.plain.proofs.Marks.{listed_join, family_deep}
 use Rattle.engine.proofs.Gathering.{tells_none, tells_then}
-
--- ---- a family's root
-
-pub root_told : (s : List ℕ) (h : Header) (family : Family) (lane : ℕ) → Accepted s h → Groups s h family → lane ≡ get_or (paths_of h s family.number) 0 0
-    → Rooted s h family (record { slot = 0; source = lane; cut = 0; reverse = false; terminal = true; next = 0; hub_next = 0; hub_end = 0; start = 0; end = 0 })
-root_told s h family lane acc gs e =
-    record {
-      child = record { lane = path_named s h family 0 lane acc gs (path_some s h family acc gs) e; slot = path_some s h family acc gs; waiting = refl; no_next = refl; no_hub = refl; closed = refl };
-      is = rw (e, paths_are s h family.number acc.counted.framed) refl;
-    }
 
 -- ---- the families, one after the other
 
@@ -97,12 +87,6 @@ module _ (s : List ℕ) (h : Header) where
       record { onward = λ o₂ q t. rw e at t; few = omega arith; starts = refl; known = k; ample = a; long_path = refl; long_slot = refl; long_out = refl }
 
   module _ {path slot out : List ℕ} {l : Told} {memo p₁ s₁ o₁ : List ℕ} {n start : ℕ} {r : Told} (u : Sweeping path slot out l memo p₁ s₁ o₁ n start r) where
-    pub sweeping_standing : {starts : List ℕ} (family : Family) → Accepted s h → Started s h starts → Groups s h family → Standing s starts memo p₁ s₁ o₁ (outset family) r
-    sweeping_standing family acc st gs =
-        let a = u.ample in
-        let b = a.pieces in
-        record { accepted = acc; started = st; known = u.known; groups = gs; room = omega arith; few = omega arith; scratch = a.scratch; within = a.within; written = a.written }
-
     pub sweeping_done : h.families ≤ n → Swept out l (plain_marks (panel_of s)) o₁ r
     unfolding marks_from
     sweeping_done k =
@@ -208,23 +192,13 @@ module _ (p : Panel) (from : ℕ) (out out' : List ℕ) (l r : Told) (is : l ≡
   pub replied_told : (q : PlainReply) → q ≡ record { refusal = 0; place = 0; written = r.listing.written; words = r.listing.words } → Replied p from out out' q
   replied_told q e = record { reply = rw flat-told (e ∙ rw (written_told, words_told) refl); room = rw flat-told out_told }
 
-pub replied_deep : (p : Panel) (from : ℕ) (out : List ℕ) (q : PlainReply) → goes_too_deep (plain_marks p) ≡ true → q ≡ record { refusal = 42; place = 0; written = 0; words = 0 } → Replied p from out out q
-replied_deep p from out q d e = record { reply = rw d e; room = rw d refl }
-
--- nothing is listed at the outset
-pub look_fresh : (l : Told) → l ≡ looking → (l.listing.words ≡ 0) × (l.listing.written ≡ 0)
-look_fresh l e = rw e (refl, refl)
-
-pub list_fresh : (from : ℕ) (l : Told) → l ≡ listing_from from → (l.listing.words ≡ 0) × (l.listing.written ≡ 0)
-list_fresh from l e = rw e (refl, refl)
-
 -- what the first sweep tells
 pub look_told : (p : Panel) (out out' : List ℕ) (l r : Told) (b : Bool) → l ≡ looking → Swept out l (plain_marks p) out' r → r.deep ≡ b → goes_too_deep (plain_marks p) ≡ b
 look_told p out out' l r b q t e =
     let t' : Swept out looking (plain_marks p) out' r = subst (λ (x : Told). Swept out x (plain_marks p) out' r) q t in
     sym (t'.deep (λ z. absurd (true≢false z))) ∙ e
 
-module _ (s : List ℕ) (from : ℕ) (out out' : List ℕ) (h : Header) (q : PlainReply) (o : Opened) (is : o ≡ checked s) (good : o ≡ Good h) (t : Replied (panel_of s) from out out' q) where
+module _ (s : List ℕ) (from : ℕ) (out out' : List ℕ) (h : Header) (q : PlainReply) (o : Result Header PanelRefusal) (is : o ≡ checked s) (good : o ≡ Ok h) (t : Replied (panel_of s) from out out' q) where
   accepts : panel_refusal s ≡ 0
   unfolding panel_refusal
   accepts = rw (sym is ∙ good) refl
@@ -252,11 +226,11 @@ module _ (s : List ℕ) (from : ℕ) (out out' : List ℕ) (h : Header) (q : Pla
       go true e = rw (number_is true e) refl
       go false e = rw (number_is false e) refl
 
-module _ (s : List ℕ) (from : ℕ) (out : List ℕ) (n : ℕ) (o : Opened) (is : o ≡ checked s) (bad : o ≡ Refused n) where
+module _ (s : List ℕ) (from : ℕ) (out : List ℕ) (x : PanelRefusal) (n : ℕ) (number : n ≡ refusal_number x) (o : Result Header PanelRefusal) (is : o ≡ checked s) (bad : o ≡ Err x) where
   refused_is : (m : ℕ) → n ≡ m → (plain_refusal s ≡ record { number = n; place = 0 }) × (n ≡ 0 → ⊥)
   unfolding plain_refusal panel_refusal
-  refused_is zero e = absurd (checked_none s (sym is ∙ bad ∙ ap Refused e))
-  refused_is (suc m) e = (rw (sym is ∙ bad, e) refl, λ z. (let y : ⊥ = omega arith in y))
+  refused_is zero e = let some = refusal_some x in let z : ⊥ = omega arith in absurd z
+  refused_is (suc m) e = (rw (sym is ∙ bad, ← number, e) refl, λ z. (let y : ⊥ = omega arith in y))
 
   pub list_refused : (q : PlainReply) → q ≡ record { refusal = n; place = 0; written = 0; words = 0 } → q ≡ plain_answer s from (length out)
   unfolding plain_answer

@@ -4,7 +4,7 @@
 
 ghost use Rattle.std.specs.Prelude.{◌≡◌, true, ◌+◌, ◌*◌, ◌≤◌, ◌<◌, length};
 ghost use Rattle.image.specs.Panel.{panel_of};
-ghost use Rattle.image.specs.Inner.{Started, Groups};
+ghost use Rattle.image.specs.Inner.{Started};
 ghost use Rattle.panel.specs.Inner.{Accepted};
 ghost use Rattle.search.specs.Rooms.{frame_width};
 ghost use Rattle.frames.specs.Inner.{path_at, frame_with};
@@ -12,7 +12,7 @@ ghost use Rattle.landings.specs.Inner.{Known};
 ghost use Rattle.advance.specs.Inner.{Child, Flagged, moved_to};
 ghost use Rattle.engine.specs.Answer.{plain_answer, plain_out, PlainHolds};
 ghost use Rattle.plain.specs.Steps.{depth, plain_marks};
-ghost use Rattle.engine.specs.Inner.{path_words, slot_words, below, is_over, has_port, in_reach, looking, listing_from, Standing, Stepped, Acts, InHand, place_tells, act_tells, hub_tells, ports_tell, Given, Rooted, Ample, Swept, Replied};
+ghost use Rattle.engine.specs.Inner.{slot_words, below, is_over, has_port, in_reach, looking, listing_from, Standing, Stepped, Acts, InHand, place_tells, act_tells, hub_tells, ports_tell, Given, Ample, Swept, Replied};
 
 use advance::{Action, Turn};
 use evaluate::Segment;
@@ -50,38 +50,20 @@ pub struct Told {
 fn is_over(l: Told) -> bool
     ensures { result ≡ is_over l }
 {
-    if l.deep {
-        return true;
-    }
-    if l.looks {
-        return false;
-    }
-    let x = l.listing;
-    x.full
+    l.deep || (!l.looks && l.listing.full)
 }
 
 fn too_deep(l: Told) -> Told
     ensures { result ≡ record { listing = l.listing; looks = l.looks; deep = true } }
 {
-    let listing = l.listing;
-    Told {
-        listing,
-        looks: l.looks,
-        deep: true,
-    }
+    Told { deep: true, ..l }
 }
 
 // Whether a port remains that is to be tried.
 fn has_port(f: Stored, count: usize, l: Told) -> bool
     ensures { result ≡ has_port l f.next count }
 {
-    if is_over(l) {
-        return false;
-    }
-    if f.next == 0 {
-        return false;
-    }
-    f.next as usize <= count
+    !is_over(l) && f.next != 0 && f.next as usize <= count
 }
 
 // The frame with its hub closed.
@@ -100,8 +82,7 @@ fn shut(f: Stored) -> Stored
 fn in_reach(t: Turn) -> Stored
     ensures { result ≡ in_reach t.frame t.clear }
 {
-    let f = t.frame;
-    if t.clear { f } else { shut(f) }
+    if t.clear { t.frame } else { shut(t.frame) }
 }
 
 // One is listed, where it still may fit: the assignment that the path and a closing piece complete.
@@ -117,17 +98,12 @@ fn give(
     requires { ((top + 1) * frame_width ≤ length path.now) × (top < depth) × (slot_words ≤ length slot.old) × (l.listing.words ≤ length out.old) × (l.listing.written ≤ l.listing.words) }
     ensures { Given family path.now slot.old out.old top s l slot.new out.new result }
 {
-    let x = l.listing;
-    if x.full {
+    if l.listing.full {
         return l;
     }
     let n = writer::put_path(slot, path, top, family, s);
-    let listing = listing::hand_over(out, x, slot, n);
-    Told {
-        listing,
-        looks: l.looks,
-        deep: l.deep,
-    }
+    let listing = listing::hand_over(out, l.listing, slot, n);
+    Told { listing, ..l }
 }
 
 // ---- the steps
@@ -157,10 +133,10 @@ fn place_step(
     let lane = image::lane_of(image, h, starts, c.source as usize);
     let f = advance::enter(image, h, starts, c);
     let t = advance::terminal_unit(image, h, family, lane, path, here.top, f);
-    let action = t.action;
-    let g = t.frame;
-    let now = act_step(image, starts, memo, path, slot, out, here, action, l);
-    ports_step(image, starts, memo, path, slot, out, here, lane, g, now)
+    let now = act_step(image, starts, memo, path, slot, out, here, t.action, l);
+    ports_step(
+        image, starts, memo, path, slot, out, here, lane, t.frame, now,
+    )
 }
 
 // The ports ahead, one after the other, each with its hub.
@@ -210,17 +186,12 @@ fn hub_step(
     requires { (0 < here.left) × Standing image.now starts.now memo.old path.old slot.old out.old (below here) l × InHand image.now here lane path.old g × Flagged (panel_of image.now) (frame_with (path_at path.old here.top) g) true }
     ensures { Stepped image.now (below here) path.old slot.old out.old l (hub_tells image.now here path.old g) memo.new path.new slot.new out.new result }
 {
-    if is_over(l) {
-        return l;
-    }
-    if g.hub_end <= g.hub_next {
+    if is_over(l) || g.hub_end <= g.hub_next {
         return l;
     }
     let n = g.hub_end - g.hub_next;
     if n == 1 {
-        let h = here.h;
-        let family = here.family;
-        let action = advance::meet(image, h, family, lane, g, true);
+        let action = advance::meet(image, here.h, here.family, lane, g, true);
         return act_step(image, starts, memo, path, slot, out, here, action, l);
     }
     let mid = g.hub_next + n / 2;
@@ -246,45 +217,24 @@ fn act_step(
     requires { (0 < here.left) × Standing image.now starts.now memo.old path.old slot.old out.old (below here) l × Acts image.now here action }
     ensures { Stepped image.now (below here) path.old slot.old out.old l (act_tells image.now here path.old action) memo.new path.new slot.new out.new result }
 {
-    let h = here.h;
-    let family = here.family;
     match action {
         Action::Down(c) => {
             let next = Here {
-                h,
-                family,
                 top: here.top + 1,
                 left: here.left - 1,
+                ..here
             };
             place_step(image, starts, memo, path, slot, out, next, c, l)
         }
-        Action::Give(s) => give(family.number as u64, path, slot, out, here.top, s, l),
-        Action::Pass => l,
-        Action::Leave => l,
+        Action::Give(s) => {
+            let family = here.family.number as u64;
+            give(family, path, slot, out, here.top, s, l)
+        }
+        Action::Pass | Action::Leave => l,
     }
 }
 
 // ---- family by family
-
-// The root of a family: slot 0, its first path, cut 0, forward.
-fn root(image: &[u8], h: Header, family: Family) -> Stored
-    requires { Accepted image.now h × Groups image.now h family }
-    ensures { Rooted image.now h family result }
-{
-    let lane = image::family_path(image, h, family, 0);
-    Stored {
-        slot: 0,
-        source: lane as u64,
-        cut: 0,
-        reverse: false,
-        terminal: true,
-        next: 0,
-        hub_next: 0,
-        hub_end: 0,
-        start: 0,
-        end: 0,
-    }
-}
 
 fn sweep_families(
     image: &[u8],
@@ -300,11 +250,10 @@ fn sweep_families(
     ensures { Swept out.old first (plain_marks (panel_of image.now)) out.new result }
 {
     let mut told = first;
-    let mut n: usize = 0;
-    let mut start: usize = 0;
-    while n < h.families {
+    let mut start = 0;
+    for n in 0..h.families {
         let family = image::family_from(image, h, n, start);
-        let c = root(image, h, family);
+        let c = walks::root(image, h, family);
         let here = Here {
             h,
             family,
@@ -313,21 +262,8 @@ fn sweep_families(
         };
         told = place_step(image, starts, memo, path, slot, out, here, c, told);
         start = image::family_end(image, h, family);
-        n += 1;
     }
     told
-}
-
-fn path_room() -> [u64; PATH]
-    ensures { length result ≡ path_words }
-{
-    [0u64; PATH]
-}
-
-fn slot_room() -> [u64; SLOT]
-    ensures { length result ≡ slot_words }
-{
-    [0u64; SLOT]
 }
 
 // All is gone through once.
@@ -337,8 +273,8 @@ fn sweep(image: &[u8], h: Header, first: Told, out: &mut [u64]) -> Told
 {
     let starts = image::lane_starts(image, h);
     let mut memo = landings::no_memo();
-    let mut path = path_room();
-    let mut slot = slot_room();
+    let mut path = [0u64; PATH];
+    let mut slot = [0u64; SLOT];
     sweep_families(
         image, h, &starts, &mut memo, &mut path, &mut slot, out, first,
     )
@@ -369,12 +305,11 @@ fn refused(number: u64) -> PlainReply
 fn reply(l: Told) -> PlainReply
     ensures { result ≡ record { refusal = 0; place = 0; written = l.listing.written; words = l.listing.words } }
 {
-    let x = l.listing;
     PlainReply {
         refusal: 0,
         place: 0,
-        written: x.written,
-        words: x.words as u64,
+        written: l.listing.written,
+        words: l.listing.words as u64,
     }
 }
 
@@ -433,7 +368,7 @@ pub fn list(image: &[u8], from: u64, out: &mut [u64]) -> PlainReply
     ensures plain_holds { PlainHolds image.now from out.old result out.new }
 {
     match graph::check_panel(image) {
-        image::Opened::Good(h) => list_in(image, h, from, out),
-        image::Opened::Refused(n) => refused(n),
+        Ok(h) => list_in(image, h, from, out),
+        Err(e) => refused(e.number()),
     }
 }

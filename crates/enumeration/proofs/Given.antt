@@ -12,8 +12,8 @@ use borrow.Author.Tests.{eqb-true, eqb-false, eq-eqb, lt-ltb, lt-leb}
 use Rattle.ground.specs.Lists.{pick, count}
 use Rattle.ground.proofs.Members.{mem_take, mem_drop}
 use Rattle.storage.specs.declared.Port.{Port}
-use Rattle.storage.specs.declared.Order.{Order}
-use Rattle.storage.specs.declared.Order.TheVariants.{Less, Equal, Greater}
+use Rattle.std.specs.declared.cmp.Ordering.{Ordering}
+use Rattle.std.specs.declared.cmp.Ordering.TheVariants.{Less, Equal, Greater}
 use Rattle.storage.specs.Records.{same_turn, cut_as, cut_of}
 use Rattle.storage.specs.Orders.{word_order, word_below, word_up_to, bucket_of, is_less, is_greater, record_lt}
 use Rattle.storage.proofs.OrderLaws.{word_same, word_self, below_before, up_to_before}
@@ -37,7 +37,7 @@ between : (w : List ℕ) (m : Port) → word_below w m ≡ false → word_up_to 
 unfolding word_below word_up_to
 between w m e f = go (word_order m.word w) refl e f
   where
-    go : (o : Order) → word_order m.word w ≡ o → is_less o ≡ false → not (is_greater o) ≡ true → m.word ≡ w
+    go : (o : Ordering) → word_order m.word w ≡ o → is_less o ≡ false → not (is_greater o) ≡ true → m.word ≡ w
     go Less q e f = absurd (true≢false e)
     go Equal q e f = word_same m.word w q
     go Greater q e f = absurd (true≢false (sym f))

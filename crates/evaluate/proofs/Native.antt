@@ -13,18 +13,19 @@ use Rattle.ground.proofs.ListLaws.{both, all_at}
 use Rattle.storage.specs.declared.Port.{Port}
 use Rattle.image.specs.declared.Header.{Header}
 use Rattle.image.specs.declared.Entry.{Entry}
-use Rattle.image.specs.declared.Opened.{Opened}
-use Rattle.image.specs.declared.Opened.TheVariants.{Good, Refused}
-use Rattle.image.specs.Header.{header_of, opened, or_refuse, sound1, sound2, sound3}
+use Rattle.image.specs.declared.PanelRefusal.{PanelRefusal}
+use Rattle.std.specs.declared.result.Result.{Result}
+use Rattle.std.specs.declared.result.Result.TheVariants.{Ok, Err}
+use Rattle.image.specs.Header.{header_of}
 use Rattle.image.specs.Image.{entries, counts, lane_ports, families, paths, path_counts, no_entry}
 use Rattle.image.specs.Inner.{Framed}
 use Rattle.image.specs.Panel.{Panel, panel_of, panel_by, zip_lanes, no_lane, lane_at, paths_at}
 use Rattle.image.proofs.Laws.{entries_length, rows_length}
 use Rattle.families.specs.Families.{names, no_twice, sound5a, sound5b, sound5}
-use Rattle.panel.specs.Refusals.{length_ok, sound4, sound6, sound7, sound8}
+use Rattle.panel.specs.Refusals.{length_ok}
 use Rattle.panel.specs.Inner.{Accepted}
-use Rattle.graph.specs.Check.{ports_checked, later, after_open, checked}
-use Rattle.graph.proofs.Laws.{accepted_of}
+use Rattle.graph.specs.Check.{checked}
+use Rattle.graph.proofs.Laws.{accepted_of, refusal_some}
 use Rattle.evaluate.specs.Properties.{Each, Pairs, Matched}
 use Rattle.graph.specs.Check.{refusal_of, panel_refusal}
 use Rattle.evaluate.specs.Segments.{flat, whole, native_of}
@@ -159,31 +160,7 @@ module _ (s : List ℕ) (h : Header) (a : Accepted s h) where
       (rw is (all_standing (get_or (split (path_counts h s) (paths h s)) f []) (all_split (names h) (path_counts h s) (paths h s) f named)))
       (rw is (all_at [] no_twice (split (path_counts h s) (paths h s)) f apart room))
 
--- ---- a refusal's number is not 0
-
-unless_none : (b : Bool) (m : ℕ) (o : Opened) → (o ≡ Refused 0 → ⊥) → or_refuse b (suc m) o ≡ Refused 0 → ⊥
-unless_none true m o h e = h e
-unless_none false m o h e = let z : suc m ≡ 0 = cc in omega arith
-
-good_none : (h : Header) → Good h ≡ Refused 0 → ⊥
-good_none h e = let z : ◌≡◌ {A = ℕ} 0 1 = cc in omega arith
-
-later_none : (h : Header) (s : List ℕ) → later h s ≡ Refused 0 → ⊥
-unfolding later ports_checked
-later_none h s =
-    unless_none (sound4 h s) 3 _ (unless_none (sound5 h s) 4 _ (unless_none (sound6 h s) 5 _ (unless_none (sound7 h s) 6 _ (unless_none (sound8 h s) 7 _ (good_none h)))))
-
-opened_none : (s : List ℕ) → opened s ≡ Refused 0 → ⊥
-unfolding opened
-opened_none s = unless_none (sound1 s) 0 _ (unless_none (sound2 (header_of s)) 1 _ (unless_none (sound3 (header_of s) (length s)) 2 _ (good_none (header_of s))))
-
-pub checked_none : (s : List ℕ) → checked s ≡ Refused 0 → ⊥
-unfolding checked
-checked_none s e = go (opened s) refl e
-  where
-    go : (o : Opened) → opened s ≡ o → after_open o s ≡ Refused 0 → ⊥
-    go (Good h) q z = later_none h s z
-    go (Refused n) q z = opened_none s (q ∙ z)
+-- ---- the check and the number 0
 
 -- what the number 0 says: the check accepts the panel
 pub record Taken (s : List ℕ) : Type 0 where
@@ -194,9 +171,9 @@ pub taken : (s : List ℕ) → panel_refusal s ≡ 0 → Taken s
 unfolding panel_refusal
 taken s e = go (checked s) refl e
   where
-    go : (o : Opened) → checked s ≡ o → refusal_of o ≡ 0 → Taken s
-    go (Good h) q z = record { header = h; accepted = accepted_of s h q }
-    go (Refused n) q z = absurd (checked_none s (q ∙ ap Refused z))
+    go : (o : Result Header PanelRefusal) → checked s ≡ o → refusal_of o ≡ 0 → Taken s
+    go (Ok h) q z = record { header = h; accepted = accepted_of s h q }
+    go (Err e) q z = let some = refusal_some e in absurd (omega arith)
 
 -- THE NATIVES ARE LEGAL
 pub native_legal : (s : List ℕ) → panel_refusal s ≡ 0 → (f : ℕ) → f < length (panel_of s).families → Legal (panel_of s) (native_of (panel_of s) f)

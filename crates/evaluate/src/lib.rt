@@ -5,7 +5,7 @@ ghost use Rattle.std.specs.Prelude.{◌≡◌};
 ghost use Rattle.evaluate.specs.Segments.{entry, exit};
 
 // A piece of a lane: its bases from start up to end, read forward or reverse.
-#[derive(Clone, Copy)]
+#[derive(Clone, Copy, PartialEq, Eq, Debug)]
 pub struct Segment {
     pub source: u64,
     pub start: u64,
@@ -33,7 +33,7 @@ impl Segment {
 }
 
 // A refusal: its number, 0 where nothing is refused, and its place.
-#[derive(Clone, Copy)]
+#[derive(Clone, Copy, PartialEq, Eq, Debug)]
 pub struct Refusal {
     pub number: u64,
     pub place: u64,
@@ -41,7 +41,7 @@ pub struct Refusal {
 
 // What the assignment check answers: the refusal, and how many words of out it wrote.
 #[repr(C)]
-#[derive(Clone, Copy)]
+#[derive(Clone, Copy, PartialEq, Eq, Debug)]
 pub struct AssignmentReply {
     pub refusal: u64,
     pub place: u64,

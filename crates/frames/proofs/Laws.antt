@@ -4,21 +4,24 @@ use native.Mathlib.Nat.{add-zero, add-suc, not-suc-le-zero, eq-or-lt_of_le}
 use native.Mathlib.Omega.{arith}
 use native.Mathlib.Numerals.{add-one, add_eight, towards_suc}
 use mathlib.Core.Path.{◌≡◌, refl, sym, ap, ap₂, ◌∙◌}
-use mathlib.Core.Bool.{Bool, true, false, not}
+use mathlib.Core.Bool.{Bool, true, false, not, ◌&&◌}
 use mathlib.Core.Logic.{◌⊎◌, inl, inr}
 use mathlib.Core.List.{List, [], ◌∷◌, ◌++◌, append_assoc, append-nil}
-use lib.Dec.{eqb, ltb, leb}
-use lib.ListN.{length, get_or, take, drop, length-append, get_or-append, take-append-drop}
-use lib.Seq.{sets-eq, sets, take-add, drop-cons, length-sets, get_or_at, drop-drop}
-use borrow.Author.Tests.{eq-eqb, ne_eqb, lt-ltb, le-ltb, le-leb, lt-leb, ltb-true, ltb-false}
+use lib.Dec.{eqb}
+use lib.ListN.{length, get_or, take, drop, length-append, take-append-drop}
+use lib.Seq.{sets-eq, sets, take-add, drop-cons, length-sets, drop-drop}
+use Rattle.std.specs.Prelude.{map}
+use Rattle.std.specs.List.{range_with_len, list_all}
+use Rattle.std.proofs.lemmas.List.FromFn.{map-range_with_len_more}
+use Rattle.std.proofs.lemmas.List.Folds.{list_all-map}
 use Rattle.ground.specs.Lists.{all}
 use Rattle.evaluate.specs.declared.Segment.{Segment}
-use Rattle.evaluate.specs.Segments.{Route, flat, clear}
+use Rattle.evaluate.specs.Segments.{Route, flat, overlap, clear}
 use Rattle.evaluate.specs.Words.{bit}
 use Rattle.search.specs.Walk.{Frame, on_path}
 use Rattle.search.specs.Rooms.{frame_width, piece_here, frame_words, stack_words}
 use Rattle.frames.specs.declared.Stored.{Stored}
-use Rattle.frames.specs.Inner.{stored_words, put, stored_at, Path, no_path, piece_from, path_to, path_at, piece_at, pieces, no_segment, apart_from, place_with, frame_with, frame_of, stack_of, Linked, Alike}
+use Rattle.frames.specs.Inner.{stored_words, put, stored_at, Path, no_path, piece_from, path_to, path_at, piece_at, pieces, apart_from, place_with, frame_with, frame_of, stack_of, Linked, Alike}
 use Rattle.frames.proofs.Sets.{get_d_sets_lt, get_d_sets_in, drop_sets, take_sets}
 
 -- ---- one frame
@@ -103,42 +106,22 @@ unfolding pieces
 pieces_length xs zero = refl
 pieces_length xs (suc n) = length-append (pieces xs n) (piece_at xs n ∷ []) ∙ rw (pieces_length xs n) (omega arith)
 
-pieces_last : (xs : List ℕ) (n i : ℕ) → (i < n → get_or (pieces xs n) i no_segment ≡ piece_at xs i) → (i ≡ n) ⊎ (i < n) → get_or (pieces xs n ++ (piece_at xs n ∷ [])) i no_segment ≡ piece_at xs i
-pieces_last xs n i before (inl e) = rw e (get_or_at (pieces xs n) (piece_at xs n) [] no_segment n (pieces_length xs n))
-pieces_last xs n i before (inr l) = get_or-append (pieces xs n) (piece_at xs n ∷ []) no_segment i (rw (pieces_length xs n) l) ∙ before l
-
-pieces_at : (xs : List ℕ) (n i : ℕ) → i < n → get_or (pieces xs n) i no_segment ≡ piece_at xs i
+pieces_are : (xs : List ℕ) (n : ℕ) → pieces xs n ≡ map (piece_at xs) (range_with_len 0 n)
 unfolding pieces
-pieces_at xs zero i h = absurd (not-suc-le-zero h)
-pieces_at xs (suc n) i h = pieces_last xs n i (pieces_at xs n i) (eq-or-lt_of_le (omega arith))
+pieces_are xs zero = refl
+pieces_are xs (suc n) = ap (λ (l : List Segment). l ++ (piece_at xs n ∷ [])) (pieces_are xs n) ∙ sym (simp add-one at (map-range_with_len_more (piece_at xs) 0 n n (omega arith)))
 
-pub apart_told : (xs : List ℕ) (s t : Segment) (r : Bool) (n i : ℕ) → i < n → t ≡ piece_at xs i → r ≡ apart_from s t → r ≡ apart_from s (get_or (pieces xs n) i no_segment)
-apart_told xs s t r n i l e q = q ∙ ap (apart_from s) (e ∙ sym (pieces_at xs n i l))
+all_so : (f : Segment → Bool) (l : List Segment) → list_all f l ≡ all f l
+unfolding all
+all_so f [] = refl
+all_so f (s ∷ l) = ap (λ (b : Bool). f s && b) (all_so f l)
 
--- the list's end of the overlap test
-pub clear_is : (s : Segment) (l : List Segment) (r : Bool) → r ≡ all (apart_from s) l → r ≡ clear s l
+-- a chain that asks each piece's number
+pub clear_of : (xs : List ℕ) (s : Segment) (n : ℕ) → list_all (λ i. apart_from s (piece_at xs i)) (range_with_len 0 n) ≡ clear s (pieces xs n)
 unfolding apart_from
-clear_is s l r e = e
-
-not_less : (a b : ℕ) → leb b a ≡ not (ltb a b)
-not_less a b = go (ltb a b) refl
-  where
-    go : (t : Bool) → ltb a b ≡ t → leb b a ≡ not (ltb a b)
-    go true e = let q = ltb-true a b e in lt-leb b a q ∙ rw e
-    go false e = let q = ltb-false a b e in le-leb b a q ∙ rw e
-
-module _ (s t : Segment) where
-  pub apart_lanes : (s.source ≡ t.source → ⊥) → true ≡ apart_from s t
-  unfolding apart_from
-  apart_lanes n = rw (ne_eqb s.source t.source n)
-
-  pub apart_behind : s.source ≡ t.source → t.end ≤ s.start → true ≡ apart_from s t
-  unfolding apart_from
-  apart_behind e l = rw (eq-eqb s.source t.source e, le-ltb s.start t.end l)
-
-  pub apart_before : s.source ≡ t.source → s.start < t.end → leb s.end t.start ≡ apart_from s t
-  unfolding apart_from
-  apart_before e l = rw (eq-eqb s.source t.source e, lt-ltb s.start t.end l) (not_less t.start s.end)
+clear_of xs s n =
+    let f : Segment → Bool = λ t. not (overlap s t) in
+    sym (list_all-map f (piece_at xs) (range_with_len 0 n)) ∙ ap (list_all f) (sym (pieces_are xs n)) ∙ all_so f (pieces xs n)
 
 -- ---- the path
 

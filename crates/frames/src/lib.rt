@@ -1,13 +1,13 @@
 // The walk's stack: frames of ten words in a lent room.
 #![tactic(auto)]
 
-ghost use Rattle.std.specs.Prelude.{◌≡◌, ◌++◌, ◌+◌, ◌-◌, ◌*◌, ◌≤◌, ◌<◌, length, take, drop, get_or, replicate};
+ghost use Rattle.std.specs.Prelude.{◌≡◌, ◌++◌, ◌+◌, ◌-◌, ◌*◌, ◌≤◌, length, take, drop, replicate};
 ghost use Rattle.evaluate.specs.Segments.{clear};
 ghost use Rattle.search.specs.Rooms.{frame_width};
-ghost use Rattle.frames.specs.Inner.{put, stored_at, piece_at, pieces, no_segment, apart_from};
+ghost use Rattle.frames.specs.Inner.{put, stored_at, piece_at, pieces, apart_from};
 
 // A frame as it is stored (01, "Room left behind"): its words in their order.
-#[derive(Clone, Copy)]
+#[derive(Clone, Copy, PartialEq, Eq, Debug)]
 pub struct Stored {
     pub slot: u64,
     pub source: u64,
@@ -26,18 +26,17 @@ impl Stored {
     pub const WORDS: usize = 10;
 }
 
+#[tactic(auto, unfolding(crate::specs::Inner::put))]
 pub fn put_frame(frames: &mut [u64], index: usize, f: Stored)
     requires { (index + 1) * frame_width ≤ length frames.old }
     ensures { frames.new ≡ put frames.old index f }
 {
     let at = index * Stored::WORDS;
-    let reverse = f.reverse as u64;
-    let terminal = f.terminal as u64;
     frames[at] = f.slot;
     frames[at + 1] = f.source;
     frames[at + 2] = f.cut;
-    frames[at + 3] = reverse;
-    frames[at + 4] = terminal;
+    frames[at + 3] = u64::from(f.reverse);
+    frames[at + 4] = u64::from(f.terminal);
     frames[at + 5] = f.next;
     frames[at + 6] = f.hub_next;
     frames[at + 7] = f.hub_end;
@@ -45,6 +44,7 @@ pub fn put_frame(frames: &mut [u64], index: usize, f: Stored)
     frames[at + 9] = f.end;
 }
 
+#[tactic(auto, unfolding(crate::specs::Inner::stored_at))]
 pub fn frame_at(frames: &[u64], index: usize) -> Stored
     requires { (index + 1) * frame_width ≤ length frames.now }
     ensures { result ≡ stored_at frames.now index }
@@ -69,11 +69,7 @@ pub fn clear_words(room: &mut [u64], from: usize, to: usize)
     requires { (from ≤ to) × (to ≤ length room.old) }
     ensures { room.new ≡ take from room.old ++ (replicate (to - from) 0 ++ drop to room.old) }
 {
-    let mut i = from;
-    while i < to {
-        room[i] = 0;
-        i += 1;
-    }
+    room[from..to].fill(0);
 }
 
 // ---- the path: the pieces that lead from frame to frame
@@ -94,27 +90,11 @@ pub fn piece_at(frames: &[u64], i: usize) -> evaluate::Segment
 }
 
 // Whether two segments share no base.
+#[tactic(auto, unfolding(crate::specs::Inner::apart_from))]
 fn are_apart(s: evaluate::Segment, t: evaluate::Segment) -> bool
     ensures { result ≡ apart_from s t }
 {
-    if s.source == t.source {
-        if s.start < t.end {
-            s.end <= t.start
-        } else {
-            true
-        }
-    } else {
-        true
-    }
-}
-
-// The same of the piece that leads from frame i to the next, of those up to frame n.
-fn is_apart_at(frames: &[u64], n: usize, s: evaluate::Segment, i: usize) -> bool
-    requires { ((n + 1) * frame_width ≤ length frames.now) × (i < n) }
-    ensures { result ≡ apart_from s (get_or (pieces frames.now n) i no_segment) }
-{
-    let t = piece_at(frames, i);
-    are_apart(s, t)
+    s.source != t.source || t.end <= s.start || s.end <= t.start
 }
 
 // Whether a segment shares no base with the pieces that lead up to frame n.
@@ -122,13 +102,5 @@ pub fn is_clear(frames: &[u64], n: usize, s: evaluate::Segment) -> bool
     requires { (n + 1) * frame_width ≤ length frames.now }
     ensures { result ≡ clear s (pieces frames.now n) }
 {
-    let mut i = 0;
-    while i < n {
-        if is_apart_at(frames, n, s, i) {
-            i += 1;
-        } else {
-            return false;
-        }
-    }
-    true
+    (0..n).all(|i| are_apart(s, piece_at(frames, i)))
 }

@@ -1,7 +1,7 @@
 -- Laws of the port at a cut and of the bucket.
 use Prim.Native.Nat.{ℕ, ◌+◌, ◌-◌, ◌≤◌, ◌<◌, ◌^◌}
 use native.Mathlib.Omega.{arith}
-use mathlib.Core.Path.{◌≡◌, refl, ◌∙◌}
+use mathlib.Core.Path.{◌≡◌, refl, ap, ◌∙◌}
 use mathlib.Core.Bool.{Bool, true, false, ◌&&◌}
 use mathlib.Core.List.{List, []}
 use lib.Dec.{ltb}
@@ -17,8 +17,11 @@ use Rattle.storage.specs.declared.Members.{Members}
 use Rattle.storage.proofs.Laws.{stands_place}
 use Rattle.image.specs.declared.Header.{Header}
 use Rattle.image.specs.declared.Lane.{Lane}
-use Rattle.image.specs.declared.Opened.{Opened}
-use Rattle.image.specs.declared.Opened.TheVariants.{Good, Refused}
+use Rattle.image.specs.declared.PanelRefusal.{PanelRefusal}
+use Rattle.std.specs.declared.option.Option.{Option}
+use Rattle.std.specs.declared.option.Option.TheVariants.{None, Some}
+use Rattle.std.specs.declared.result.Result.{Result}
+use Rattle.std.specs.declared.result.Result.TheVariants.{Ok, Err}
 use Rattle.image.specs.Image.{ports_of, hub}
 use Rattle.image.specs.Inner.{Framed, Stands}
 use Rattle.image.specs.Panel.{panel_of}
@@ -27,10 +30,11 @@ use Rattle.panel.specs.Inner.{Accepted}
 use Rattle.panel.specs.Refusals.{hub_rising}
 use Rattle.panel.proofs.Laws.{row_rises, lane_rises, lane_port_small}
 use Rattle.graph.specs.Check.{checked}
-use Rattle.graph.specs.Lookups.{without, found, ports_at, port_in, port_answer, bucket_answer}
-use Rattle.graph.specs.declared.Found.TheVariants.{Unsound, NoLane, NoPort, Here}
-use Rattle.graph.specs.declared.PortAnswer.{PortAnswer}
-use Rattle.graph.specs.declared.BucketAnswer.TheVariants.{BadPanel, BadWord, Bucket}
+use Rattle.graph.specs.Lookups.{found, ports_at, port_in, port_answer, bucket_answer}
+use Rattle.graph.specs.declared.PortRefusal.{PortRefusal}
+use Rattle.graph.specs.declared.PortRefusal.TheVariants.{Unsound, NoLane}
+use Rattle.graph.specs.declared.BucketRefusal.{BucketRefusal}
+use Rattle.graph.specs.declared.BucketRefusal.TheVariants.{BadPanel, BadWord}
 
 -- the lane's list that the code reads is the panel's
 ports_are : (s : List ℕ) (h : Header) (n cut : ℕ) (reverse : Bool) → Framed s h → n < h.lanes → ports_at (panel_of s) n cut reverse ≡ keep (stands_at h.k cut reverse) (ports_of h s n)
@@ -42,10 +46,10 @@ module _ (s : List ℕ) (h : Header) (l : Lane) (cut shift : ℕ) (reverse : Boo
   here = ports_are s h l.number cut reverse acc.counted.framed stands.lane
 
   -- a cut nearer to the lane's start than any port's
-  pub port_short : (r : PortAnswer) → r ≡ without NoPort → cut < shift → r ≡ found (ports_at (panel_of s) l.number cut reverse)
-  port_short r e lt =
+  pub port_short : cut < shift → None ≡ found (ports_at (panel_of s) l.number cut reverse)
+  port_short lt =
       let none : ports_at (panel_of s) l.number cut reverse ≡ [] = here ∙ keep_nothing (stands_at h.k cut reverse) (λ p. go p (stands_at h.k cut reverse p) refl) (ports_of h s l.number) in
-      e ∙ rw none
+      rw none
     where
       go : (p : Port) (t : Bool) → stands_at h.k cut reverse p ≡ t → stands_at h.k cut reverse p ≡ false
       go p true q = let there = (stands_place h.k cut reverse p q).0 in absurd (omega arith)
@@ -68,11 +72,11 @@ module _ (s : List ℕ) (h : Header) (l : Lane) (cut shift : ℕ) (reverse : Boo
         ∙ rw at (keep_at place no_port (stands_at h.k cut reverse) (place_before (cut - shift) reverse) (place_of (cut - shift) reverse) alike before_is (ports_of h s l.number)
         (lane_rises (ports_of h s l.number) (row_rises s h l stands acc.rows)))
 
-    pub port_past : (r : PortAnswer) → r ≡ without NoPort → l.count ≤ i → r ≡ found (ports_at (panel_of s) l.number cut reverse)
-    port_past r e past =
+    pub port_past : l.count ≤ i → None ≡ found (ports_at (panel_of s) l.number cut reverse)
+    port_past past =
         let n = row_length s h l stands in
         let none : length (ports_of h s l.number) ≤ i = omega arith in
-        e ∙ rw (kept, le-ltb i (length (ports_of h s l.number)) none)
+        rw (kept, le-ltb i (length (ports_of h s l.number)) none)
 
     module _ (p : Port) (b : Bool) (lt : i < l.count) (is : p ≡ get_or (ports_of h s l.number) i no_port) (test : b ≡ stands_at h.k cut reverse p) where
       one : ports_at (panel_of s) l.number cut reverse ≡ cons_if b p []
@@ -81,29 +85,29 @@ module _ (s : List ℕ) (h : Header) (l : Lane) (cut shift : ℕ) (reverse : Boo
           let room : i < length (ports_of h s l.number) = omega arith in
           kept ∙ rw (lt-ltb i (length (ports_of h s l.number)) room, ← is, ← test)
 
-      pub port_here : b ≡ true → record { found = Here; port = p } ≡ found (ports_at (panel_of s) l.number cut reverse)
+      pub port_here : b ≡ true → Some p ≡ found (ports_at (panel_of s) l.number cut reverse)
       port_here t = rw (one, t)
 
-      pub port_other : (r : PortAnswer) → r ≡ without NoPort → b ≡ false → r ≡ found (ports_at (panel_of s) l.number cut reverse)
-      port_other r e t = e ∙ rw (one, t)
+      pub port_other : b ≡ false → None ≡ found (ports_at (panel_of s) l.number cut reverse)
+      port_other t = rw (one, t)
 
 pub port_fits : (s : List ℕ) (h : Header) (l : Lane) (i : ℕ) (p : Port) → Accepted s h → Stands s h l → i < l.count → p ≡ get_or (ports_of h s l.number) i no_port → p.anchor + h.k < 2 ^ 64
 port_fits s h l i p acc st lt is = let m = lane_port_small s h l i p acc st lt is in omega arith
 
-module _ (s : List ℕ) (h : Header) (lane cut : ℕ) (reverse : Bool) (r : PortAnswer) where
-  pub lane_found : (l : Lane) → lane < h.lanes → l.number ≡ lane → r ≡ found (ports_at (panel_of s) l.number cut reverse) → r ≡ port_in h (panel_of s) lane cut reverse
-  lane_found l lt e q = q ∙ rw (lt-ltb lane h.lanes lt, e)
+module _ (s : List ℕ) (h : Header) (lane cut : ℕ) (reverse : Bool) where
+  pub lane_found : (l : Lane) (r : Option Port) → lane < h.lanes → l.number ≡ lane → r ≡ found (ports_at (panel_of s) l.number cut reverse) → Ok r ≡ port_in h (panel_of s) lane cut reverse
+  lane_found l r lt e q = ap Ok q ∙ rw (lt-ltb lane h.lanes lt, e)
 
-  pub lane_missing : h.lanes ≤ lane → r ≡ without NoLane → r ≡ port_in h (panel_of s) lane cut reverse
-  lane_missing le q = q ∙ rw (le-ltb lane h.lanes le)
+  pub lane_missing : h.lanes ≤ lane → Err NoLane ≡ port_in h (panel_of s) lane cut reverse
+  lane_missing le = rw (le-ltb lane h.lanes le)
 
-  pub port_good : (o : Opened) → o ≡ checked s → o ≡ Good h → r ≡ port_in h (panel_of s) lane cut reverse → r ≡ port_answer s lane cut reverse
+  pub port_good : (r : Result (Option Port) PortRefusal) → Ok h ≡ checked s → r ≡ port_in h (panel_of s) lane cut reverse → r ≡ port_answer s lane cut reverse
   unfolding port_answer
-  port_good o e t q = q ∙ rw (← e, t)
+  port_good r e q = q ∙ rw (← e)
 
-pub port_refused : (s : List ℕ) (lane cut n : ℕ) (reverse : Bool) (o : Opened) (r : PortAnswer) → o ≡ checked s → o ≡ Refused n → r ≡ without (Unsound n) → r ≡ port_answer s lane cut reverse
+pub port_refused : (s : List ℕ) (lane cut : ℕ) (n : PanelRefusal) (reverse : Bool) (e : PortRefusal) → Err n ≡ checked s → e ≡ Unsound n → Err e ≡ port_answer s lane cut reverse
 unfolding port_answer
-port_refused s lane cut n reverse o r e t q = q ∙ rw (← e, t)
+port_refused s lane cut n reverse e f q = ap Err q ∙ rw (← f)
 
 -- ---- buckets
 
@@ -116,15 +120,15 @@ pub bucket_is : (s : List ℕ) (h : Header) (w : List ℕ) (b : Members) → Acc
 unfolding hub
 bucket_is s h w b acc e = e ∙ rw (panel_hub s h acc.counted.framed)
 
-module _ (s : List ℕ) (h : Header) (w : List ℕ) (o : Opened) (e : o ≡ checked s) (t : o ≡ Good h) where
-  pub bucket_good : (b : Members) → length w ≡ h.k → b ≡ bucket_of (padded w h.k) (panel_of s).hub → Bucket b ≡ bucket_answer s w
+module _ (s : List ℕ) (h : Header) (w : List ℕ) (e : Ok h ≡ checked s) where
+  pub bucket_good : (b : Members) → length w ≡ h.k → b ≡ bucket_of (padded w h.k) (panel_of s).hub → Ok b ≡ bucket_answer s w
   unfolding bucket_answer
-  bucket_good b l q = rw (← e, t, eq-eqb (length w) h.k l, q)
+  bucket_good b l q = rw (← e, eq-eqb (length w) h.k l, q)
 
-  pub bucket_word : (length w ≡ h.k → ⊥) → BadWord ≡ bucket_answer s w
+  pub bucket_word : (length w ≡ h.k → ⊥) → Err BadWord ≡ bucket_answer s w
   unfolding bucket_answer
-  bucket_word n = rw (← e, t, ne_eqb (length w) h.k n)
+  bucket_word n = rw (← e, ne_eqb (length w) h.k n)
 
-pub bucket_refused : (s : List ℕ) (n : ℕ) (w : List ℕ) (o : Opened) → o ≡ checked s → o ≡ Refused n → BadPanel n ≡ bucket_answer s w
+pub bucket_refused : (s : List ℕ) (n : PanelRefusal) (w : List ℕ) (e : BucketRefusal) → Err n ≡ checked s → e ≡ BadPanel n → Err e ≡ bucket_answer s w
 unfolding bucket_answer
-bucket_refused s n w o e t = rw (← e, t)
+bucket_refused s n w e f q = ap Err q ∙ rw (← f)

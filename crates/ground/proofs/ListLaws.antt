@@ -1,11 +1,11 @@
 -- The laws between lists of a parsed image and places in its bytes.
-use Prim.Native.Nat.{ℕ, zero, suc, ◌+◌, ◌-◌, ◌*◌, ◌/◌, ◌≤◌, ◌<◌}
+use Prim.Native.Nat.{ℕ, zero, suc, ◌+◌, ◌-◌, ◌*◌, ◌≤◌, ◌<◌}
 use native.Mathlib.Nat.{not-suc-le-zero, zero-mul, zero-add, mul-le-mul_right, eq-or-lt_of_le}
 use mathlib.Core.Logic.{◌⊎◌, inl, inr}
 use native.Mathlib.Numerals.{add-one}
 use native.Mathlib.Omega.{arith}
 use mathlib.Core.Path.{◌≡◌, refl, sym, ap, ◌∙◌}
-use mathlib.Core.Bool.{Bool, true, false, not, ◌&&◌, ◌||◌, or-false}
+use mathlib.Core.Bool.{Bool, true, false, true≢false, not, ◌&&◌, or-false}
 use mathlib.Core.List.{List, [], ◌∷◌}
 use lib.ListN.{length, take, drop, get_or, drop_of_length-le, length-drop}
 use lib.Dec.{eqb, ltb}
@@ -86,15 +86,6 @@ module _ {A : Type 0} (d : A) where
   unfolding all
   all_next f l i h = rw (drop_next_of l i h)
 
-  pub after_next : (f : A → A → Bool) (a : A) (l : List A) (i : ℕ) → i < length l → after f a (drop i l) ≡ (f a (get_or l i d) && after f (get_or l i d) (drop (i + 1) l))
-  unfolding after
-  after_next f a l i h = rw (drop_next_of l i h)
-
-  pub rising_first : (f : A → A → Bool) (l : List A) → 0 < length l → rising f l ≡ after f (get_or l 0 d) (drop 1 l)
-  unfolding rising
-  rising_first f [] h = absurd (not-suc-le-zero h)
-  rising_first f (a ∷ l) h = refl
-
   pub all_done : (f : A → Bool) (l : List A) (i : ℕ) → length l ≤ i → all f (drop i l) ≡ true
   unfolding all
   all_done f l i h =
@@ -153,47 +144,11 @@ all_ends f l n i so le long =
 
 -- ---- a loop that asks whether each stands in the relation to the next
 
-pub record RisingFrom {A : Type 0} (f : A → A → Bool) (l : List A) (n : ℕ) (a : A) (i : ℕ) : Type 0 where
-  pub within : i ≤ n
-  pub todo : rising f l ≡ after f a (drop i l)
-
-pub rising_none : {A : Type 0} (f : A → A → Bool) (l : List A) (n : ℕ) → n ≡ 0 → length l ≡ n → true ≡ rising f l
-unfolding rising
-rising_none f [] n e long = refl
-rising_none f (a ∷ l) n e long = let z : ⊥ = omega arith in absurd z
-
-pub rising_start : {A : Type 0} (d : A) (f : A → A → Bool) (l : List A) (n : ℕ) (a : A) → (n ≡ 0 → ⊥) → a ≡ get_or l 0 d → length l ≡ n → RisingFrom f l n a 1
-rising_start d f l n a ne e long =
-    let room : 0 < length l = omega arith in
-    record { within = omega arith; todo = rising_first d f l room ∙ rw e }
-
-module _ {A : Type 0} (d : A) (f : A → A → Bool) (l : List A) (n : ℕ) (a : A) (i : ℕ) (b : A) (r : Bool) (so : RisingFrom f l n a i) (lt : i < n) (is : b ≡ get_or l i d) (test : r ≡ f a b)
-    (long : length l ≡ n) where
-  rising_step : rising f l ≡ (r && after f b (drop (i + 1) l))
-  rising_step =
-      let room : i < length l = omega arith in
-      so.todo ∙ rw (test, is) (after_next d f a l i room)
-
-  pub rising_again : r ≡ true → RisingFrom f l n b (i + 1)
-  rising_again e = record { within = omega arith; todo = rising_step ∙ rw e }
-
-  pub rising_fails : r ≡ false → false ≡ rising f l
-  rising_fails e = sym (rising_step ∙ rw e)
-
-pub rising_ends : {A : Type 0} (f : A → A → Bool) (l : List A) (n : ℕ) (a : A) (i : ℕ) → RisingFrom f l n a i → n ≤ i → length l ≡ n → true ≡ rising f l
-unfolding after
-rising_ends f l n a i so le long =
-    let none : drop i l ≡ [] = drop_of_length-le l {i = i} (omega arith) in
-    sym (so.todo ∙ rw none)
-
 -- ---- a loop that asks whether numbers sum to a total, by taking each from what is left
 
 pub record SumsFrom (ns : List ℕ) (total n left i : ℕ) : Type 0 where
   pub within : i ≤ n
   pub todo : eqb (sum ns) total ≡ eqb (sum (drop i ns)) left
-
-pub sums_start : (ns : List ℕ) (total n : ℕ) → SumsFrom ns total n total 0
-sums_start ns total n = record { within = omega arith; todo = refl }
 
 eqb_less : (x y left : ℕ) → x ≤ left → eqb (x + y) left ≡ eqb y (left - x)
 eqb_less x y left h = go (eqb y (left - x)) refl
@@ -235,25 +190,6 @@ pub record Cut {A : Type 0} (f : A → Bool) (l : List A) (d : A) (n lo hi : ℕ
 pub cut_start : {A : Type 0} (f : A → Bool) (l : List A) (d : A) (n : ℕ) → Cut f l d n 0 n
 cut_start f l d n = record { order = omega arith; within = omega arith; lower = λ p h. absurd (not-suc-le-zero h); rest = λ q h m. absurd (omega arith) }
 
-module _ {A : Type 0} (f : A → Bool) (l : List A) (d : A) (n lo hi : ℕ) (x : A) (r : Bool) (so : Cut f l d n lo hi) (lt : lo < hi) (is : x ≡ get_or l (lo + (hi - lo) / 2) d)
-    (test : r ≡ f x) (long : length l ≡ n) (falls : Falls f l d) where
-  here : r ≡ f (get_or l (lo + (hi - lo) / 2) d)
-  here = test ∙ ap f is
-
-  pub cut_up : r ≡ true → Cut f l d n (lo + (hi - lo) / 2 + 1) hi
-  cut_up e =
-      let w = so.within in
-      record { order = omega arith; within = so.within; lower = λ p h. falls p (lo + (hi - lo) / 2) (omega arith) (omega arith) (sym here ∙ e); rest = so.rest }
-
-  pub cut_down : r ≡ false → Cut f l d n lo (lo + (hi - lo) / 2)
-  cut_down e =
-      let w = so.within in
-      record { order = omega arith; within = omega arith; lower = so.lower; rest = λ q h m. go q h m (f (get_or l q d)) refl }
-    where
-      go : (q : ℕ) → lo + (hi - lo) / 2 ≤ q → q < n → (t : Bool) → f (get_or l q d) ≡ t → f (get_or l q d) ≡ false
-      go q h m true g = cc (falls (lo + (hi - lo) / 2) q h (omega arith) g)
-      go q h m false g = g
-
 count_is : {A : Type 0} (f : A → Bool) (l : List A) (d : A) (r : ℕ) → r ≤ length l → ((p : ℕ) → p < r → f (get_or l p d) ≡ true)
     → ((q : ℕ) → r ≤ q → q < length l → f (get_or l q d) ≡ false) → r ≡ count f l
 unfolding count
@@ -266,6 +202,30 @@ cut_done f l d n lo hi so le long =
     let o = so.order in
     let w = so.within in
     count_is f l d lo (omega arith) so.lower (λ q h m. so.rest q (omega arith) (omega arith))
+
+-- the place of a search between lo and hi, behind the last that passes and before the first that fails
+pub point_counts : {A : Type 0} (f : A → Bool) (l : List A) (d : A) (n lo hi r : ℕ) → Falls f l d → Cut f l d n lo hi → length l ≡ n → (lo ≤ r) × (r ≤ hi)
+    → (lo < r → true ≡ f (get_or l (r - 1) d)) → (r < hi → false ≡ f (get_or l r d)) → r ≡ count f l
+point_counts f l d n lo hi r falls so long room last first =
+    let w = so.within in
+    let low = room.0 in
+    let high = room.1 in
+    count_is f l d r (omega arith) (λ p h. below p h (dec_lt p lo)) (λ q h m. beyond q h m (dec_lt q hi) (f (get_or l q d)) refl)
+  where
+    below : (p : ℕ) → p < r → Dec (p < lo) → f (get_or l p d) ≡ true
+    below p h (yes y) = so.lower p y
+    below p h (no z) =
+        let w = so.within in
+        let high = room.1 in
+        let k : lo < r = omega arith in
+        falls p (r - 1) (omega arith) (omega arith) (sym (last k))
+
+    beyond : (q : ℕ) → r ≤ q → q < length l → Dec (q < hi) → (t : Bool) → f (get_or l q d) ≡ t → f (get_or l q d) ≡ false
+    beyond q h m (no z) t e = so.rest q (omega arith) (omega arith)
+    beyond q h m (yes y) false e = e
+    beyond q h m (yes y) true e =
+        let k : r < hi = omega arith in
+        absurd (true≢false (sym (first k ∙ falls r q h m e)))
 
 -- ---- lists that rise by a number
 
@@ -439,33 +399,7 @@ module _ (ns : List ℕ) (top at i x n total : ℕ) (so : SumTo ns top at i) (lt
       let b : at + x < 4194305 = omega arith in
       Fits-under w64 (at + x) 4194305 b tt
 
-pub sum_to_done : (ns : List ℕ) (top at i : ℕ) → SumTo ns top at i → top ≤ i → at ≡ sum (take top ns)
-sum_to_done ns top at i so le = let e : i ≡ top = (let w = so.within in omega arith) in so.so_far ∙ rw e
-
 -- ---- a loop that asks whether any passes a test
-
-pub record AnyFrom {A : Type 0} (f : A → Bool) (l : List A) (b : ℕ) (n i : ℕ) : Type 0 where
-  pub within : i ≤ n
-  pub todo : any f (drop b l) ≡ any f (drop i l)
-
-module _ {A : Type 0} (d : A) (f : A → Bool) (l : List A) (b n i : ℕ) (r : Bool) (so : AnyFrom f l b n i) (lt : i < n) (test : r ≡ f (get_or l i d)) (long : length l ≡ n) where
-  any_step : any f (drop b l) ≡ (r || any f (drop (i + 1) l))
-  unfolding any
-  any_step =
-      let room : i < length l = omega arith in
-      so.todo ∙ rw (drop_next_of d l i room, test)
-
-  pub any_again : r ≡ false → AnyFrom f l b n (i + 1)
-  any_again e = record { within = omega arith; todo = any_step ∙ rw e }
-
-  pub any_found : r ≡ true → true ≡ any f (drop b l)
-  any_found e = sym (any_step ∙ rw e)
-
-pub any_ends : {A : Type 0} (f : A → Bool) (l : List A) (b n i : ℕ) → AnyFrom f l b n i → n ≤ i → length l ≡ n → false ≡ any f (drop b l)
-unfolding any
-any_ends f l b n i so le long =
-    let none : drop i l ≡ [] = drop_of_length-le l {i = i} (omega arith) in
-    sym (so.todo ∙ rw none)
 
 -- ---- a loop that asks whether no element comes again
 

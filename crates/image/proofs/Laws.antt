@@ -25,7 +25,8 @@ use Rattle.image.specs.declared.Header.{Header}
 use Rattle.image.specs.declared.Entry.{Entry}
 use Rattle.image.specs.declared.Lane.{Lane}
 use Rattle.image.specs.declared.Family.{Family}
-use Rattle.image.specs.declared.Opened.TheVariants.{Good, Refused}
+use Rattle.image.specs.declared.PanelRefusal.TheVariants.{Short, Counts, Layout}
+use Rattle.std.specs.declared.result.Result.TheVariants.{Ok, Err}
 use Rattle.image.specs.Header.{header_of, sound2, sound3, opened, Bounds, end_place, hub_place, lane_ports_place, paths_place, families_place}
 use Rattle.image.specs.Image.{entry_of, entries, counts, count_of, no_entry, lane_ports, hub, ports_of, start_of, paths, path_counts, families, paths_of}
 use Rattle.image.specs.Inner.{Framed, Counted, Started, Stands, Grouped, Groups}
@@ -33,15 +34,6 @@ use Rattle.image.specs.Panel.{no_lane, zip_lanes, panel_by, panel_of}
 use Rattle.storage.specs.Records.{no_port}
 
 -- ---- refusals 1 to 3
-
-pub bounds_families : (h : Header) → 4096 < h.families → false ≡ sound2 h
-unfolding sound2
-bounds_families h l = rw (lt-leb h.families 4096 l)
-
-pub bounds_rest : (h : Header) (r x y z u v p : Bool) → h.families ≤ 4096 → u ≡ within 1 32 h.k → v ≡ within 1 4096 h.lanes → z ≡ (u && v)
-    → p ≡ leb h.ports 4194304 → x ≡ (z && p) → y ≡ leb h.paths (64 * h.families) → r ≡ (x && y) → r ≡ sound2 h
-unfolding sound2
-bounds_rest h r x y z u v p l a b c d e f g = rw (le-leb h.families 4096 l, g, e, c, a, b, d, f)
 
 pub bounds_of : (h : Header) → sound2 h ≡ true → Bounds h
 unfolding sound2
@@ -69,21 +61,21 @@ pub bounds_told : (h : Header) (b : Bool) → b ≡ sound2 h → b ≡ true → 
 bounds_told h b e t = bounds_of h (sym e ∙ t)
 
 module _ (s : List ℕ) where
-  pub open_short : length s < 80 → Refused 1 ≡ opened s
+  pub open_short : length s < 80 → Err Short ≡ opened s
   unfolding opened
   open_short l = rw (lt-leb 80 (length s) l)
 
   module _ (long : 80 ≤ length s) (h : Header) (e : h ≡ header_of s) (b : Bool) (t : b ≡ sound2 h) where
-    pub open_bounds : b ≡ false → Refused 2 ≡ opened s
+    pub open_bounds : b ≡ false → Err Counts ≡ opened s
     unfolding opened
     open_bounds q = rw (le-leb 80 (length s) long, ← e, ← t, q)
 
     module _ (c : Bool) (u : c ≡ sound3 h (length s)) (q : b ≡ true) where
-      pub open_packed : c ≡ false → Refused 3 ≡ opened s
+      pub open_packed : c ≡ false → Err Layout ≡ opened s
       unfolding opened
       open_packed p = rw (le-leb 80 (length s) long, ← e, ← t, q, ← u, p)
 
-      pub open_good : c ≡ true → Good h ≡ opened s
+      pub open_good : c ≡ true → Ok h ≡ opened s
       unfolding opened
       open_good p = rw (le-leb 80 (length s) long, ← e, ← t, q, ← u, p)
 

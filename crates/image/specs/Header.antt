@@ -5,8 +5,10 @@ use Rattle.storage.specs.Bytes.{number}
 use Rattle.storage.specs.Records.{record_size, longest_word}
 use Rattle.image.specs.Sizes.{word_size, header_size, entry_size, most_lanes, most_families, most_paths, most_ports}
 use Rattle.image.specs.declared.Header.{Header}
-use Rattle.image.specs.declared.Opened.{Opened}
-use Rattle.image.specs.declared.Opened.TheVariants.{Good, Refused}
+use Rattle.image.specs.declared.PanelRefusal.{PanelRefusal}
+use Rattle.image.specs.declared.PanelRefusal.TheVariants.{Short, Counts, Layout, Lanes, Families, Records, Order, Listing}
+use Rattle.std.specs.declared.result.Result.{Result}
+use Rattle.std.specs.declared.result.Result.TheVariants.{Ok, Err}
 
 -- k, lanes L, families F, path entries T, ports N, then the five offsets
 unfoldable pub header_of : List ℕ → Header
@@ -58,17 +60,28 @@ sound3 h n =
     && (eqb h.paths_at (paths_place h) && eqb h.lane_ports_at (lane_ports_place h)
     && (eqb h.hub_at (hub_place h) && eqb n (end_place h)))
 
--- the first refusal by number
-abbrev pub or_refuse : Bool → ℕ → Opened → Opened
-or_refuse true n o = o
-or_refuse false n o = Refused n
+-- 01's number of a refusal of the check
+abbrev pub refusal_number : PanelRefusal → ℕ
+refusal_number Short = 1
+refusal_number Counts = 2
+refusal_number Layout = 3
+refusal_number Lanes = 4
+refusal_number Families = 5
+refusal_number Records = 6
+refusal_number Order = 7
+refusal_number Listing = 8
 
-unfoldable pub opened : List ℕ → Opened
+-- the first refusal by number
+abbrev pub or_refuse : Bool → PanelRefusal → Result Header PanelRefusal → Result Header PanelRefusal
+or_refuse true e o = o
+or_refuse false e o = Err e
+
+unfoldable pub opened : List ℕ → Result Header PanelRefusal
 opened s =
-    or_refuse (sound1 s) 1
-    (or_refuse (sound2 (header_of s)) 2
-    (or_refuse (sound3 (header_of s) (length s)) 3
-    (Good (header_of s))))
+    or_refuse (sound1 s) Short
+    (or_refuse (sound2 (header_of s)) Counts
+    (or_refuse (sound3 (header_of s) (length s)) Layout
+    (Ok (header_of s))))
 
 -- what 2 leaves
 pub record Bounds (h : Header) : Type 0 where

@@ -1,16 +1,16 @@
 // The header of a panel image, and its lists read at byte offsets.
 #![tactic(auto)]
 
-ghost use Rattle.std.specs.Prelude.{◌≡◌, ◌+◌, ◌*◌, ◌≤◌, ◌<◌, length, drop, take, get_or, replicate};
+ghost use Rattle.std.specs.Prelude.{◌≡◌, ◌+◌, ◌*◌, ◌≤◌, ◌<◌, length, drop, take, get_or};
 ghost use Rattle.ground.specs.Lists.{sum, each};
 ghost use Rattle.storage.specs.Orders.{record_lt, same_port, place_lt, place_before};
 ghost use Rattle.storage.specs.Bytes.{number};
-ghost use Rattle.image.specs.Header.{header_of, sound2, sound3, opened, Bounds};
+ghost use Rattle.image.specs.Header.{header_of, sound2, sound3, opened, refusal_number, Bounds};
 ghost use Rattle.image.specs.Image.{entry_of, entries, counts, ports_of, hub, no_entry, paths, path_counts, paths_of};
 ghost use Rattle.image.specs.Inner.{Framed, Counted, Started, Stands, Grouped, Groups};
 ghost use Rattle.storage.specs.Records.{port_of, no_port, record_size};
 
-#[derive(Clone, Copy)]
+#[derive(Clone, Copy, PartialEq, Eq, Debug)]
 pub struct Header {
     pub k: usize,
     pub lanes: usize,
@@ -45,10 +45,35 @@ impl Header {
     pub const LENGTH: usize = 4294967295;
 }
 
-#[derive(Clone, Copy)]
-pub enum Opened {
-    Good(Header),
-    Refused(u64),
+// Why an image is no panel, in the order in which it is looked at: 01's refusals 1 to 8.
+#[derive(Clone, Copy, PartialEq, Eq, Debug)]
+pub enum PanelRefusal {
+    Short,
+    Counts,
+    Layout,
+    Lanes,
+    Families,
+    Records,
+    Order,
+    Listing,
+}
+
+impl PanelRefusal {
+    // The number of the refusal.
+    pub fn number(self) -> u64
+        ensures { result ≡ refusal_number self }
+    {
+        match self {
+            PanelRefusal::Short => 1,
+            PanelRefusal::Counts => 2,
+            PanelRefusal::Layout => 3,
+            PanelRefusal::Lanes => 4,
+            PanelRefusal::Families => 5,
+            PanelRefusal::Records => 6,
+            PanelRefusal::Order => 7,
+            PanelRefusal::Listing => 8,
+        }
+    }
 }
 
 // The ten words that an image of 80 bytes or more begins with.
@@ -80,24 +105,20 @@ pub fn header_of(image: &[u8]) -> Header
     }
 }
 
-// Refusal 2. (T is held against F first, so that no product wraps.)
+// Refusal 2. (T is held against F last, so that no product wraps.)
+#[tactic(auto, unfolding(crate::specs::Header::sound2))]
 fn in_bounds(h: Header) -> bool
     ensures { result ≡ sound2 h }
 {
-    if Header::FAMILIES < h.families {
-        return false;
-    }
-    let counts = ground::both(
-        ground::is_within(1, Header::LETTERS, h.k),
-        ground::is_within(1, Header::LANES, h.lanes),
-    );
-    ground::both(
-        ground::both(counts, ground::at_most(h.ports, Header::PORTS)),
-        ground::at_most(h.paths, Header::PATHS * h.families),
-    )
+    h.families <= Header::FAMILIES
+        && (1..=Header::LETTERS).contains(&h.k)
+        && (1..=Header::LANES).contains(&h.lanes)
+        && h.ports <= Header::PORTS
+        && h.paths <= Header::PATHS * h.families
 }
 
 // Refusal 3.
+#[tactic(auto, unfolding(crate::specs::Header::sound3))]
 fn is_packed(h: Header, len: usize) -> bool
     requires { Bounds h }
     ensures { result ≡ sound3 h len }
@@ -108,44 +129,33 @@ fn is_packed(h: Header, len: usize) -> bool
     let width = h.k + storage::Port::EXCESS;
     let hub_at = lane_ports_at + h.ports * width;
     let end = hub_at + h.ports * width;
-    let first = ground::both(
-        ground::same(h.lanes_at, Header::SIZE),
-        ground::same(h.families_at, families_at),
-    );
-    let second = ground::both(
-        ground::same(h.paths_at, paths_at),
-        ground::same(h.lane_ports_at, lane_ports_at),
-    );
-    ground::both(
-        first,
-        ground::both(
-            second,
-            ground::both(ground::same(h.hub_at, hub_at), ground::same(len, end)),
-        ),
-    )
+    h.lanes_at == Header::SIZE
+        && h.families_at == families_at
+        && h.paths_at == paths_at
+        && h.lane_ports_at == lane_ports_at
+        && h.hub_at == hub_at
+        && len == end
 }
 
 // The header of an image, or its refusal 1, 2 or 3.
-pub fn open(image: &[u8]) -> Opened
+pub fn open(image: &[u8]) -> Result<Header, PanelRefusal>
     ensures { result ≡ opened image.now }
 {
     let len = image.len();
     if len < Header::SIZE {
-        return Opened::Refused(1);
+        return Err(PanelRefusal::Short);
     }
     let h = header_of(image);
-    if in_bounds(h) {
-        if is_packed(h, len) {
-            Opened::Good(h)
-        } else {
-            Opened::Refused(3)
-        }
-    } else {
-        Opened::Refused(2)
+    if !in_bounds(h) {
+        return Err(PanelRefusal::Counts);
     }
+    if !is_packed(h, len) {
+        return Err(PanelRefusal::Layout);
+    }
+    Ok(h)
 }
 
-#[derive(Clone, Copy)]
+#[derive(Clone, Copy, PartialEq, Eq, Debug)]
 pub struct Entry {
     pub len: u64,
     pub count: usize,
@@ -153,7 +163,7 @@ pub struct Entry {
 }
 
 // A lane, and where its list stands among the lane ports.
-#[derive(Clone, Copy)]
+#[derive(Clone, Copy, PartialEq, Eq, Debug)]
 pub struct Lane {
     pub number: usize,
     pub len: u64,
@@ -220,14 +230,7 @@ pub fn lane_count(image: &[u8], h: Header, lane: usize) -> usize
     requires { Framed image.now h × (lane < h.lanes) }
     ensures { result ≡ get_or (counts h image.now) lane 0 }
 {
-    let e = lane_entry(image, h, lane);
-    e.count
-}
-
-fn no_starts() -> [usize; Header::LANES]
-    ensures { result ≡ replicate 4096 0 }
-{
-    [0usize; Header::LANES]
+    lane_entry(image, h, lane).count
 }
 
 // Where each lane's list begins among the lane ports.
@@ -235,15 +238,11 @@ pub fn lane_starts(image: &[u8], h: Header) -> [usize; Header::LANES]
     requires { Counted image.now h }
     ensures { Started image.now h result }
 {
-    let n = h.lanes;
-    let mut starts = no_starts();
+    let mut starts = [0usize; Header::LANES];
     let mut at = 0;
-    let mut i = 0;
-    while i < n {
-        starts[i] = at;
-        let count = lane_count(image, h, i);
-        at += count;
-        i += 1;
+    for lane in 0..h.lanes {
+        starts[lane] = at;
+        at += lane_count(image, h, lane);
     }
     starts
 }
@@ -329,7 +328,7 @@ pub fn lane_source(image: &[u8], h: Header, l: Lane, i: usize) -> u64
 }
 
 // A family, and where its paths stand among the path entries.
-#[derive(Clone, Copy)]
+#[derive(Clone, Copy, PartialEq, Eq, Debug)]
 pub struct Family {
     pub number: usize,
     pub start: usize,

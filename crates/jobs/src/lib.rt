@@ -1,9 +1,11 @@
-// The walk program's job (01, "The program"): whether it is as stated, its budget and its scores.
+// The walk program's job (01, "The program"): whether it is as stated, and its parts.
 #![tactic(auto)]
 
-ghost use Rattle.std.specs.Prelude.{◌≡◌, ◌||◌, ◌+◌, ◌*◌, ◌≤◌, eqb, length, drop};
-ghost use Rattle.search.specs.Job.{job_ok, default_budget, budget_from, budget_in};
-ghost use Rattle.jobs.specs.Inner.{Sound, Scored};
+ghost use Rattle.std.specs.Prelude.{◌≡◌, ◌⊎◌, false, ◌&&◌, ◌||◌, ◌+◌, ◌*◌, ◌≤◌, eqb, leb, length, map, MatchOption};
+ghost use Rattle.ground.specs.Lists.{pick, each};
+ghost use Rattle.storage.specs.Bytes.{number};
+ghost use Rattle.search.specs.Job.{job_ok, double_of, default_budget, budget_from};
+ghost use Rattle.jobs.specs.Inner.{Parts};
 
 use search::SearchBudget;
 
@@ -15,47 +17,50 @@ pub const BYTES: usize = 24576;
 
 pub const SCORES: usize = 1024;
 
+// A job's parts: its panel's bytes, its budget, and its scores' bytes.
+#[derive(Clone, Copy)]
+pub struct Job<'a> {
+    pub panel: &'a [u8],
+    pub budget: SearchBudget,
+    pub scores: &'a [u8],
+}
+
 // ---- 16
 
-fn is_budget_count(words: u64) -> bool
-    ensures { result ≡ (eqb words 0 || eqb words 5) }
-{
-    if words == 0 { true } else { words == 5 }
-}
+// The refusal of what is not a job.
+pub const NO_JOB: u64 = 16;
 
-fn adds_up(n: usize, panel: u64, words: u64, scores: u64) -> bool
-    requires { (panel ≤ 24576) × (words ≤ 5) × (scores ≤ 1024) }
-    ensures { result ≡ eqb n (24 + panel + 8 * words + 8 * scores) }
+// The parts of a job; none where it is not one.
+pub fn parse(job: &[u8]) -> Option<Job<'_>>
+    ensures { MatchOption result (job_ok job.now ≡ false) (λ j. Parts job.now j) }
 {
-    n as u64 == HEAD as u64 + panel + 8 * words + 8 * scores
-}
-
-// Whether it is a job; 16, where it is not.
-pub fn is_job(job: &[u8]) -> bool
-    ensures { result ≡ job_ok job.now }
-{
-    let n = job.len();
-    if n < HEAD {
-        return false;
-    }
-    if BYTES < n {
-        return false;
+    if !(HEAD..=BYTES).contains(&job.len()) {
+        return None;
     }
     let panel = storage::word_at(job, 0);
     let words = storage::word_at(job, 8);
     let scores = storage::word_at(job, 16);
-    // A panel of more bytes than a job may have does not add up.
-    if (BYTES as u64) < panel {
-        return false;
+    if !adds_up(job.len(), panel, words, scores) {
+        return None;
     }
-    if (SCORES as u64) < scores {
-        return false;
-    }
-    if is_budget_count(words) {
-        adds_up(n, panel, words, scores)
-    } else {
-        false
-    }
+    let panel_end = HEAD + panel as usize;
+    let budget_end = panel_end + 8 * words as usize;
+    Some(Job {
+        panel: &job[HEAD..panel_end],
+        budget: budget_of(&job[panel_end..], words),
+        scores: &job[budget_end..],
+    })
+}
+
+// A panel of more bytes than a job may have does not add up.
+fn adds_up(n: usize, panel: u64, words: u64, scores: u64) -> bool
+    requires { n ≤ 24576 }
+    ensures { result ≡ ((eqb words 0 || eqb words 5) && leb scores 1024 && eqb n (24 + panel + 8 * words + 8 * scores)) }
+{
+    panel <= BYTES as u64
+        && (words == 0 || words == 5)
+        && scores <= SCORES as u64
+        && n as u64 == HEAD as u64 + panel + 8 * words + 8 * scores
 }
 
 // ---- the budget
@@ -72,46 +77,31 @@ fn default_budget() -> SearchBudget
     }
 }
 
-fn budget_at(job: &[u8], at: usize) -> SearchBudget
-    requires { at + 40 ≤ length job.now }
-    ensures { result ≡ budget_from (drop at job.now) }
+// The budget that bytes begin with; the default where it has no words.
+fn budget_of(bytes: &[u8], words: u64) -> SearchBudget
+    requires { (words ≡ 0) ⊎ (40 ≤ length bytes.now) }
+    ensures { result ≡ pick (eqb words 0) default_budget (budget_from bytes.now) }
 {
-    let max_work = storage::word_at(job, at);
-    let max_evaluations = storage::word_at(job, at + 8);
-    let max_frontier = storage::word_at(job, at + 16);
-    let max_optima = storage::word_at(job, at + 24);
-    let tie_width = doubles::of_bits(storage::word_at(job, at + 32));
-    SearchBudget {
-        max_work,
-        max_evaluations,
-        max_frontier,
-        max_optima,
-        tie_width,
-    }
-}
-
-pub fn budget_of(job: &[u8]) -> SearchBudget
-    requires { Sound job.now }
-    ensures { result ≡ budget_in job.now }
-{
-    let panel = storage::word_at(job, 0) as usize;
-    let words = storage::word_at(job, 8);
     if words == 0 {
         default_budget()
     } else {
-        budget_at(job, HEAD + panel)
+        SearchBudget {
+            max_work: storage::word_at(bytes, 0),
+            max_evaluations: storage::word_at(bytes, 8),
+            max_frontier: storage::word_at(bytes, 16),
+            max_optima: storage::word_at(bytes, 24),
+            tie_width: doubles::of_bits(storage::word_at(bytes, 32)),
+        }
     }
 }
 
 // ---- the scores
 
-pub fn read_scores(job: &[u8], at: usize, n: usize, scores: &mut [f64])
-    requires { (at + 8 * n ≤ length job.now) × (n ≤ length scores.old) }
-    ensures { Scored job.now at n scores.old scores.new }
+pub fn read_scores(bytes: &[u8], scores: &mut [f64])
+    requires { 8 * length scores.old ≤ length bytes.now }
+    ensures { scores.new ≡ map double_of (each number 8 (length scores.old) bytes.now) }
 {
-    let mut i: usize = 0;
-    while i < n {
-        scores[i] = doubles::of_bits(storage::word_at(job, at + 8 * i));
-        i += 1;
+    for (i, score) in scores.iter_mut().enumerate() {
+        *score = doubles::of_bits(storage::word_at(bytes, 8 * i));
     }
 }

@@ -1,5 +1,7 @@
 -- The spare lent to a writer of an assignment, and the evaluation recorded: what a loop over evaluations cites.
 use mathlib.Core.Path.{◌≡◌}
+use Rattle.std.specs.declared.option.Option.{Option}
+use Rattle.std.specs.declared.option.Option.TheVariants.{Some}
 use mathlib.Core.List.{List}
 use Prim.Native.Nat.{ℕ, ◌+◌, ◌*◌, ◌≤◌}
 use lib.ListN.{length}
@@ -18,7 +20,7 @@ use Rattle.kept.proofs.Rooms.{keeps_one, keeps_left}
 
 -- ---- n words from the spare on are lent
 
-module _ {v m : ℕ} {k : Kept Evaluated} {b : Holding} {xs : List ℕ} {ss : List Float} (n : ℕ) (h : Keeps v m k b xs ss) (wide : v ≤ n) (room : (m + 1) * v + n ≤ length xs) where
+module _ {v m : ℕ} {k : Kept Evaluated} {b : Option Holding} {xs : List ℕ} {ss : List Float} (n : ℕ) (h : Keeps v m k b xs ss) (wide : v ≤ n) (room : (m + 1) * v + n ≤ length xs) where
   module _ {ys : List ℕ} (a : Assignment) (l : length (encode a) ≤ v) (wrote : ys ≡ over (encode a) (mid_of ((m + 1) * v) n xs)) where
     is-slot : put_mid ((m + 1) * v) n xs ys ≡ put_slot v xs (m + 1) (pad_to v (encode a))
     is-slot = written v m n xs (encode a) ys h.ready.spare l wide room wrote
@@ -28,7 +30,7 @@ module _ {v m : ℕ} {k : Kept Evaluated} {b : Holding} {xs : List ℕ} {ss : Li
       over_slot = rw is-slot at done
 
       -- what is kept is what one more evaluation keeps
-      pub lent_keeps : Keeps v m (keep_one score_of same_evaluated m width k (record { assignment = a; score = score })) r zs ts
+      pub lent_keeps : Keeps v m (keep_one score_of same_evaluated m width k (record { assignment = a; score = score })) (Some r) zs ts
       lent_keeps = keeps_one a h l over_slot
 
       pub lent_left : Left v m xs ss zs ts

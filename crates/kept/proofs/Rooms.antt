@@ -1,6 +1,9 @@
 -- Rooms that hold what is kept: from the start, over one more evaluation, and word for word at the end.
 use mathlib.Core.Path.{◌≡◌, refl, sym, ap, ap₂, ◌∙◌}
 use mathlib.Core.Bool.{Bool, true, false}
+use Rattle.std.specs.declared.option.Option.{Option}
+use Rattle.std.specs.declared.option.Option.TheVariants.{Some}
+use Rattle.std.specs.Option.{is_some}
 use mathlib.Core.List.{List, [], ◌∷◌, ◌++◌, append-nil, append_assoc, map}
 use Prim.Native.Nat.{ℕ, zero, suc, ◌+◌, ◌-◌, ◌*◌, ◌≤◌, ◌<◌}
 use native.Mathlib.Omega.{arith}
@@ -19,7 +22,7 @@ use Rattle.search.specs.Keep.{Kept, nothing, Evaluated, score_of, same_evaluated
 use Rattle.search.specs.Rooms.{pad_to, pad_scores, slot_width, slot_words, kept_needed, kept_left, scores_needed, kept_scores_left}
 use Rattle.slots.specs.Inner.{Held, held_score, same_held, put_slot, blank, held_in}
 use Rattle.slots.proofs.Slots.{length_held, held_take}
-use Rattle.kept.specs.Inner.{first_of, ties_of, view_of, held_as, no_holding, Tidy, Ready, Left, Recorded, Begun, Keeps}
+use Rattle.kept.specs.Inner.{besides, first_of, ties_of, view_of, held_as, no_holding, Tidy, Ready, Left, Recorded, Begun, Keeps}
 use Rattle.kept.specs.declared.Holding.{Holding}
 use Rattle.kept.proofs.Steps.{spare_is}
 use Rattle.kept.proofs.Spare.{noted}
@@ -31,9 +34,9 @@ pub keeps_none : {v m : ℕ} {xs₀ : List ℕ} {ss₀ : List Float} {xs : List 
 unfolding view_of ties_of held_in
 keeps_none p = record { ready = p.ready; view = refl }
 
-pub keeps_one : {v m : ℕ} {width score : Float} {k : Kept Evaluated} {b : Holding} {xs zs : List ℕ} {ss ts : List Float} {r : Holding} (a : Assignment) → Keeps v m k b xs ss → length (encode a) ≤ v
+pub keeps_one : {v m : ℕ} {width score : Float} {k : Kept Evaluated} {b : Option Holding} {xs zs : List ℕ} {ss ts : List Float} {r : Holding} (a : Assignment) → Keeps v m k b xs ss → length (encode a) ≤ v
     → Recorded v m width score b (put_slot v xs (m + 1) (pad_to v (encode a))) ss zs ts r
-    → Keeps v m (keep_one score_of same_evaluated m width k (record { assignment = a; score = score })) r zs ts
+    → Keeps v m (keep_one score_of same_evaluated m width k (record { assignment = a; score = score })) (Some r) zs ts
 keeps_one {v} {m} {width} {score} {k} {b} {xs} {zs} {ss} {ts} {r} a h l p =
     let n = noted (encode a) h.ready l p in
     record {
@@ -42,7 +45,7 @@ keeps_one {v} {m} {width} {score} {k} {b} {xs} {zs} {ss} {ts} {r} a h l p =
           ∙ held_one v m width k (record { assignment = a; score = score });
     }
 
-pub keeps_left : {v m : ℕ} {width score : Float} {k : Kept Evaluated} {b : Holding} {xs zs : List ℕ} {ss ts : List Float} {r : Holding} (a : Assignment) → Keeps v m k b xs ss → length (encode a) ≤ v
+pub keeps_left : {v m : ℕ} {width score : Float} {k : Kept Evaluated} {b : Option Holding} {xs zs : List ℕ} {ss ts : List Float} {r : Holding} (a : Assignment) → Keeps v m k b xs ss → length (encode a) ≤ v
     → Recorded v m width score b (put_slot v xs (m + 1) (pad_to v (encode a))) ss zs ts r → Left v m xs ss zs ts
 keeps_left a h l p = (noted (encode a) h.ready l p).left
 
@@ -53,11 +56,11 @@ pub left_on : {v m : ℕ} {xs ys zs : List ℕ} {ss ts us : List Float} → Left
 left_on a b = record { longx = b.longx ∙ a.longx; longs = b.longs ∙ a.longs; restx = b.restx ∙ a.restx; rests = b.rests ∙ a.rests }
 
 -- what is returned besides the rooms
-pub keeps_count : {v m : ℕ} {k : Kept Evaluated} {b : Holding} {xs : List ℕ} {ss : List Float} → Keeps v m k b xs ss → b.count ≡ length k.tied
+pub keeps_count : {v m : ℕ} {k : Kept Evaluated} {b : Option Holding} {xs : List ℕ} {ss : List Float} → Keeps v m k b xs ss → (besides b).count ≡ length k.tied
 unfolding view_of ties_of
-keeps_count {v} {m} {k} {b} {xs} {ss} h = sym (length_held v b.count (drop v xs) (drop 1 ss)) ∙ ap (λ (t : Kept Held). length t.tied) h.view ∙ rw length-map
+keeps_count {v} {m} {k} {b} {xs} {ss} h = sym (length_held v (besides b).count (drop v xs) (drop 1 ss)) ∙ ap (λ (t : Kept Held). length t.tied) h.view ∙ rw length-map
 
-pub keeps_discarded : {v m : ℕ} {k : Kept Evaluated} {b : Holding} {xs : List ℕ} {ss : List Float} → Keeps v m k b xs ss → b.discarded ≡ k.discarded
+pub keeps_discarded : {v m : ℕ} {k : Kept Evaluated} {b : Option Holding} {xs : List ℕ} {ss : List Float} → Keeps v m k b xs ss → (besides b).discarded ≡ k.discarded
 unfolding view_of
 keeps_discarded h = ap (λ (t : Kept Held). t.discarded) h.view
 
@@ -120,16 +123,16 @@ held_scores v (suc n) xs (s ∷ ss) h = ap (λ (t : List Float). s ∷ t) (held_
 
 -- ---- the needed words
 
-module _ {v m : ℕ} {b : Holding} {xs : List ℕ} {ss : List Float} where
-  all_ties : Tidy v m b xs ss → ties_of v m xs ss ≡ (view_of v b xs ss).tied ++ replicate (m - b.count) (blank v)
+module _ {v m : ℕ} {b : Option Holding} {xs : List ℕ} {ss : List Float} where
+  all_ties : Tidy v m b xs ss → ties_of v m xs ss ≡ (view_of v b xs ss).tied ++ replicate (m - (besides b).count) (blank v)
   unfolding view_of ties_of
-  all_ties t = sym (take-append-drop b.count (held_in v m (drop v xs) (drop 1 ss))) ∙ ap₂ (λ (x : List Held) (y : List Held). x ++ y) (held_take v b.count m (drop v xs) (drop 1 ss) t.few) t.unused
+  all_ties t = sym (take-append-drop (besides b).count (held_in v m (drop v xs) (drop 1 ss))) ∙ ap₂ (λ (x : List Held) (y : List Held). x ++ y) (held_take v (besides b).count m (drop v xs) (drop 1 ss) t.few) t.unused
 
   first_words : Tidy v m b xs ss → take v xs ≡ pad_to v (all_words (view_of v b xs ss).best)
   unfolding view_of
-  first_words t = go b.has refl
+  first_words t = go (is_some b) refl
     where
-      go : (h : Bool) → b.has ≡ h → take v xs ≡ pad_to v (all_words (pick h (first_of v xs ss ∷ []) []))
+      go : (h : Bool) → is_some b ≡ h → take v xs ≡ pad_to v (all_words (pick h (first_of v xs ss ∷ []) []))
       go true e =
           let lv : length (take v xs) ≡ v = length-take-le v xs (omega (arith, t.longx)) in
           let z : v - v ≡ 0 = omega arith in
@@ -140,51 +143,51 @@ module _ {v m : ℕ} {b : Holding} {xs : List ℕ} {ss : List Float} where
 
   first_score : Tidy v m b xs ss → get_or ss 0 nan ∷ [] ≡ pad_scores 1 (map held_score (view_of v b xs ss).best)
   unfolding view_of
-  first_score t = go b.has refl
+  first_score t = go (is_some b) refl
     where
-      go : (h : Bool) → b.has ≡ h → get_or ss 0 nan ∷ [] ≡ pad_scores 1 (map held_score (pick h (first_of v xs ss ∷ []) []))
+      go : (h : Bool) → is_some b ≡ h → get_or ss 0 nan ∷ [] ≡ pad_scores 1 (map held_score (pick h (first_of v xs ss ∷ []) []))
       go true e = refl
       go false e = ap (λ (s : Held). s.score ∷ []) (t.fresh e)
 
   needed_words : Ready v m b xs ss → take (m * v + v + v) xs
-      ≡ (pad_to v (all_words (view_of v b xs ss).best) ++ all_words (view_of v b xs ss).tied) ++ replicate ((m - b.count) * v + v) 0
+      ≡ (pad_to v (all_words (view_of v b xs ss).best) ++ all_words (view_of v b xs ss).tied) ++ replicate ((m - (besides b).count) * v + v) 0
   unfolding ties_of
   needed_words r =
       let t : Tidy v m b xs ss = r.tidy in
       let hx : m * v + v + v ≤ length xs = t.longx in
       let e : m * v + v + v ≡ v + (m * v + v) = omega arith in
-      let ties : take (m * v) (drop v xs) ≡ all_words (view_of v b xs ss).tied ++ replicate ((m - b.count) * v) 0 =
+      let ties : take (m * v) (drop v xs) ≡ all_words (view_of v b xs ss).tied ++ replicate ((m - (besides b).count) * v) 0 =
       sym (held_words v m (drop v xs) (drop 1 ss) (rw length-drop (omega arith))) ∙ ap all_words (all_ties t)
-      ∙ all_append (view_of v b xs ss).tied (replicate (m - b.count) (blank v)) ∙ ap (λ (l : List ℕ). all_words (view_of v b xs ss).tied ++ l) (all_blank v (m - b.count)) in
+      ∙ all_append (view_of v b xs ss).tied (replicate (m - (besides b).count) (blank v)) ∙ ap (λ (l : List ℕ). all_words (view_of v b xs ss).tied ++ l) (all_blank v (m - (besides b).count)) in
       let s : take v (drop (m * v) (drop v xs)) ≡ replicate v 0 = sym (spare_is v m xs) ∙ r.spare in
-      rw (e, take-add v (m * v + v) xs, take-add (m * v) v (drop v xs), s, ties, first_words t, ← replicate-append-replicate {A = ℕ} ((m - b.count) * v) v 0) (simp append_assoc)
+      rw (e, take-add v (m * v + v) xs, take-add (m * v) v (drop v xs), s, ties, first_words t, ← replicate-append-replicate {A = ℕ} ((m - (besides b).count) * v) v 0) (simp append_assoc)
 
-  needed_scores : Ready v m b xs ss → take (m + 1) ss ≡ (pad_scores 1 (map held_score (view_of v b xs ss).best) ++ map held_score (view_of v b xs ss).tied) ++ replicate (m - b.count) zero_score
+  needed_scores : Ready v m b xs ss → take (m + 1) ss ≡ (pad_scores 1 (map held_score (view_of v b xs ss).best) ++ map held_score (view_of v b xs ss).tied) ++ replicate (m - (besides b).count) zero_score
   unfolding held_in ties_of
   needed_scores r =
       let t : Tidy v m b xs ss = r.tidy in
       let hs : m < length ss = t.longs in
       let e : m + 1 ≡ suc m = omega arith in
-      let ties : map held_score (held_in v m (drop v xs) (drop 1 ss)) ≡ map held_score (view_of v b xs ss).tied ++ replicate (m - b.count) zero_score =
-      ap (map held_score) (all_ties t) ∙ scores_append (view_of v b xs ss).tied (replicate (m - b.count) (blank v)) ∙ ap (λ (l : List Float). map held_score (view_of v b xs ss).tied ++ l) (scores_blank v (m - b.count)) in
+      let ties : map held_score (held_in v m (drop v xs) (drop 1 ss)) ≡ map held_score (view_of v b xs ss).tied ++ replicate (m - (besides b).count) zero_score =
+      ap (map held_score) (all_ties t) ∙ scores_append (view_of v b xs ss).tied (replicate (m - (besides b).count) (blank v)) ∙ ap (λ (l : List Float). map held_score (view_of v b xs ss).tied ++ l) (scores_blank v (m - (besides b).count)) in
       rw e (sym (held_scores v (suc m) xs ss (omega arith))
-      ∙ ap₂ (λ (x : List Float) (y : List Float). x ++ y) (first_score t) ties ∙ sym (append_assoc (pad_scores 1 (map held_score (view_of v b xs ss).best)) (map held_score (view_of v b xs ss).tied) (replicate (m - b.count) zero_score)))
+      ∙ ap₂ (λ (x : List Float) (y : List Float). x ++ y) (first_score t) ties ∙ sym (append_assoc (pad_scores 1 (map held_score (view_of v b xs ss).best)) (map held_score (view_of v b xs ss).tied) (replicate (m - (besides b).count) zero_score)))
 
 -- ---- word for word
 
-module _ {v m : ℕ} {k : Kept Evaluated} {b : Holding} {xs : List ℕ} {ss : List Float} (h : Keeps v m k b xs ss) where
+module _ {v m : ℕ} {k : Kept Evaluated} {b : Option Holding} {xs : List ℕ} {ss : List Float} (h : Keeps v m k b xs ss) where
   words_are : take ((m + 2) * v) xs ≡ pad_to ((m + 2) * v) (pad_to v (flat (map (slot_words v) k.best)) ++ flat (map (slot_words v) k.tied))
   words_are =
       let n2 : (m + 2) * v ≡ m * v + v + v = omega arith in
       let long : m * v + v + v ≤ length xs = h.ready.tidy.longx in
-      pad_by 0 ((m + 2) * v) ((m - b.count) * v + v) (take ((m + 2) * v) xs) (pad_to v (flat (map (slot_words v) k.best)) ++ flat (map (slot_words v) k.tied))
+      pad_by 0 ((m + 2) * v) ((m - (besides b).count) * v + v) (take ((m + 2) * v) xs) (pad_to v (flat (map (slot_words v) k.best)) ++ flat (map (slot_words v) k.tied))
       (rw n2 (needed_words h.ready ∙ rw (h.view, all_held v k.best, all_held v k.tied)))
       (length-take-le ((m + 2) * v) xs (rw n2 long))
 
   scores_are : take (m + 1) ss ≡ pad_scores (m + 1) (pad_scores 1 (map score_of k.best) ++ map score_of k.tied)
   scores_are =
       let long : m < length ss = h.ready.tidy.longs in
-      pad_by zero_score (m + 1) (m - b.count) (take (m + 1) ss) (pad_scores 1 (map score_of k.best) ++ map score_of k.tied)
+      pad_by zero_score (m + 1) (m - (besides b).count) (take (m + 1) ss) (pad_scores 1 (map score_of k.best) ++ map score_of k.tied)
       (needed_scores h.ready ∙ rw (h.view, scores_held v k.best, scores_held v k.tied))
       (length-take-le (m + 1) ss (omega arith))
 
@@ -194,7 +197,7 @@ over_room n xs xs₀ ws h e d =
     let lw : length ws ≡ n = ap length (sym e) ∙ length-take-le n xs h in
     sym (take-append-drop n xs) ∙ rw (lw, e, d)
 
-module _ {k : Kept Evaluated} {b : Holding} {xs₀ : List ℕ} {ss₀ : List Float} {xs : List ℕ} {ss : List Float} (p : Panel) (budget : SearchBudget) where
+module _ {k : Kept Evaluated} {b : Option Holding} {xs₀ : List ℕ} {ss₀ : List Float} {xs : List ℕ} {ss : List Float} (p : Panel) (budget : SearchBudget) where
   -- the kept room at exit
   pub room_left : Keeps (slot_width p budget) budget.max_optima k b xs ss → Left (slot_width p budget) budget.max_optima xs₀ ss₀ xs ss → xs ≡ over (kept_left p budget k) xs₀
   unfolding kept_left

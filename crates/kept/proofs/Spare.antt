@@ -1,5 +1,7 @@
 -- The spare written, and the rooms zeroed: what makes them tidy, and what stays of the view.
 use mathlib.Core.Path.{◌≡◌, sym, ap, ap₂, ◌∙◌, subst}
+use Rattle.std.specs.declared.option.Option.{Option}
+use Rattle.std.specs.declared.option.Option.TheVariants.{Some}
 use mathlib.Core.List.{List, ◌++◌, append_assoc}
 use Prim.Native.Nat.{ℕ, suc, ◌+◌, ◌-◌, ◌*◌, ◌≤◌, ◌<◌}
 use native.Mathlib.Omega.{arith}
@@ -14,12 +16,12 @@ use Rattle.search.specs.Rooms.{pad_to}
 use Rattle.search.proofs.Sizes.{pad_length}
 use Rattle.slots.specs.Inner.{splice, part, slot_at, put_slot, Held, held_score, same_held, blank, held_in, Beyond, Blanked}
 use Rattle.slots.proofs.Slots.{length_put, put_suc, drop_put}
-use Rattle.kept.specs.Inner.{first_of, ties_of, view_of, offered_of, no_holding, Tidy, Ready, Left, Recorded, Begun}
+use Rattle.kept.specs.Inner.{besides, first_of, ties_of, view_of, offered_of, no_holding, Tidy, Ready, Left, Recorded, Begun}
 use Rattle.kept.specs.declared.Holding.{Holding}
 use Rattle.kept.proofs.Steps.{drop_more, take_first, held_put_past, slot_put_same}
 
 -- ---- the spare written
-module _ {v m : ℕ} {b : Holding} {xs : List ℕ} {ss : List Float} where
+module _ {v m : ℕ} {b : Option Holding} {xs : List ℕ} {ss : List Float} where
   ties_spare : (ws : List ℕ) (n : ℕ) → Tidy v m b xs ss → n ≤ m → ties_of v n (put_slot v xs (m + 1) ws) ss ≡ ties_of v n xs ss
   unfolding ties_of
   ties_spare ws n t h =
@@ -43,7 +45,7 @@ module _ {v m : ℕ} {b : Holding} {xs : List ℕ} {ss : List Float} where
 
   pub view_written : (ws : List ℕ) → Tidy v m b xs ss → view_of v b (put_slot v xs (m + 1) ws) ss ≡ view_of v b xs ss
   unfolding view_of
-  view_written ws t = rw (first_spare ws t, ties_spare ws b.count t t.few)
+  view_written ws t = rw (first_spare ws t, ties_spare ws (besides b).count t t.few)
 
 -- ---- the rooms zeroed
 module _ {v m : ℕ} {xs : List ℕ} {ss : List Float} {x₁ : List ℕ} {s₁ : List Float} where
@@ -103,16 +105,16 @@ written v m n xs ws ys s h k l q =
     ∙ rw lp (simp append_assoc)
 
 -- one evaluation whose words were written into the spare
-pub record Noted (v m : ℕ) (width score : Float) (ws : List ℕ) (b : Holding) (xs₀ : List ℕ) (ss₀ : List Float) (xs : List ℕ) (ss : List Float) (r : Holding) : Type 0 where
-  pub ready : Ready v m r xs ss
-  pub view : view_of v r xs ss ≡ keep_one held_score same_held m width (view_of v b xs₀ ss₀) (record { words = pad_to v ws; score = score })
+pub record Noted (v m : ℕ) (width score : Float) (ws : List ℕ) (b : Option Holding) (xs₀ : List ℕ) (ss₀ : List Float) (xs : List ℕ) (ss : List Float) (r : Holding) : Type 0 where
+  pub ready : Ready v m (Some r) xs ss
+  pub view : view_of v (Some r) xs ss ≡ keep_one held_score same_held m width (view_of v b xs₀ ss₀) (record { words = pad_to v ws; score = score })
   pub left : Left v m xs₀ ss₀ xs ss
 
 -- it may be recorded, and the spare that was written leaves no trace but what is kept
-pub written_tidy : {v m : ℕ} {b : Holding} {xs : List ℕ} {ss : List Float} (ws : List ℕ) → Ready v m b xs ss → length ws ≤ v → Tidy v m b (put_slot v xs (m + 1) (pad_to v ws)) ss
+pub written_tidy : {v m : ℕ} {b : Option Holding} {xs : List ℕ} {ss : List Float} (ws : List ℕ) → Ready v m b xs ss → length ws ≤ v → Tidy v m b (put_slot v xs (m + 1) (pad_to v ws)) ss
 written_tidy {v} ws t h = tidy_written (pad_to v ws) (pad_length v ws h) t.tidy
 
-pub noted : {v m : ℕ} {width score : Float} {b : Holding} {xs zs : List ℕ} {ss ts : List Float} {r : Holding} (ws : List ℕ) → Ready v m b xs ss → length ws ≤ v
+pub noted : {v m : ℕ} {width score : Float} {b : Option Holding} {xs zs : List ℕ} {ss ts : List Float} {r : Holding} (ws : List ℕ) → Ready v m b xs ss → length ws ≤ v
     → Recorded v m width score b (put_slot v xs (m + 1) (pad_to v ws)) ss zs ts r → Noted v m width score ws b xs ss zs ts r
 unfolding offered_of
 noted {v} {m} {width} {score} {b} {xs} {zs} {ss} {ts} {r} ws t h p =

@@ -1,6 +1,9 @@
 -- One law for each way through the code.
 use mathlib.Core.Path.{◌≡◌, refl, sym, ap, ap₂, ◌∙◌, subst}
 use mathlib.Core.Bool.{Bool, true, false, not, ◌&&◌, true≢false}
+use Rattle.std.specs.declared.option.Option.{Option}
+use Rattle.std.specs.declared.option.Option.TheVariants.{None, Some}
+use Rattle.std.specs.Option.{is_some}
 use mathlib.Core.List.{List, [], ◌∷◌, ◌++◌, append-nil}
 use Prim.Native.Nat.{ℕ, zero, suc, ◌+◌, ◌-◌, ◌*◌, ◌≤◌, ◌<◌}
 use native.Mathlib.Omega.{arith}
@@ -14,11 +17,11 @@ use borrow.Rule.Slice.PartMut.{put_mid, mid_of}
 use lib.Ieee as Ieee
 use lib.Ieee.{Float, nan}
 use Rattle.ground.specs.Lists.{pick}
-use Rattle.search.specs.Keep.{Kept, tied_to, lowers, near, has, adding, replaced, lowered, added, keep_one}
+use Rattle.search.specs.Keep.{Kept, tied_to, lowers, has, adding, replaced, lowered, added, keep_one}
 use Rattle.slots.specs.Inner.{splice, part, same_words, slot_at, put_slot, slots_of, Held, held_score, same_held, blank, held_in, Beyond, Pruned}
 use Rattle.slots.proofs.Slots.{slot_fits, length_slot, length_put, put_zero, put_suc, length_held, held_take, held_put, drop_put}
 use Rattle.slots.proofs.Unused.{beyond_none, beyond_on, has_held}
-use Rattle.kept.specs.Inner.{first_of, ties_of, view_of, offered_of, Tidy, Stepped, Replaced, Lowered, Adding, Added, Recorded}
+use Rattle.kept.specs.Inner.{besides, first_of, ties_of, view_of, offered_of, Tidy, Stepped, Replaced, Lowered, Adding, Added, Recorded}
 use Rattle.kept.specs.declared.Holding.{Holding}
 
 -- ---- lists
@@ -82,35 +85,35 @@ spare_is v m xs =
     let e : (m + 1) * v ≡ v + m * v = rw (add-mul, one-mul) (omega arith) in
     rw (e, drop-drop (m * v) v xs)
 
-module _ {v m : ℕ} {b : Holding} {xs : List ℕ} {ss : List Float} where
-  pub tidy_prune : Tidy v m b xs ss → b.count * v ≤ length (mid_of v (length xs - v) xs)
+module _ {v m : ℕ} {b : Option Holding} {xs : List ℕ} {ss : List Float} where
+  pub tidy_prune : Tidy v m b xs ss → (besides b).count * v ≤ length (mid_of v (length xs - v) xs)
   tidy_prune t =
-      let h : b.count * v ≤ m * v = mul-le-mul_right v t.few in
+      let h : (besides b).count * v ≤ m * v = mul-le-mul_right v t.few in
       rw (lent v xs, length-drop) (omega (arith, t.longx))
 
-  pub tidy_prune_scores : Tidy v m b xs ss → b.count ≤ length (mid_of 1 (length ss - 1) ss)
+  pub tidy_prune_scores : Tidy v m b xs ss → (besides b).count ≤ length (mid_of 1 (length ss - 1) ss)
   tidy_prune_scores t = rw (lent 1 ss, length-drop) (omega (arith, t.few, t.longs))
 
-  pub replaced_law : {score width : Float} {ys : List ℕ} {ts : List Float} {r : ℕ} {zs : List ℕ} → Tidy v m b xs ss
-      → Pruned v b.count score width (mid_of v (length xs - v) xs) (mid_of 1 (length ss - 1) ss) ys ts r
+  replaced_law : {score width : Float} {ys : List ℕ} {ts : List Float} {r : ℕ} {zs : List ℕ} → Tidy v m b xs ss
+      → Pruned v (besides b).count score width (mid_of v (length xs - v) xs) (mid_of 1 (length ss - 1) ss) ys ts r
       → zs ≡ put_slot v (put_mid v (length xs - v) xs ys) 0 (slot_at v (put_mid v (length xs - v) xs ys) (m + 1))
-      → Replaced v m width score b xs ss zs (set (put_mid 1 (length ss - 1) ss ts) 0 score) (record { has = true; count = r; discarded = b.discarded })
+      → Replaced v m width score b xs ss zs (set (put_mid 1 (length ss - 1) ss ts) 0 score) (record { count = r; discarded = (besides b).discarded })
   unfolding view_of offered_of ties_of
   replaced_law {score} {width} {ys} {ts} {r} {zs} t p₀ q =
-      let n : ℕ = b.count in
-      let fm : b.count ≤ m = t.few in
+      let n : ℕ = (besides b).count in
+      let fm : (besides b).count ≤ m = t.few in
       let hx : m * v + v + v ≤ length xs = t.longx in
       let hs : m < length ss = t.longs in
-      let p₁ : Pruned v b.count score width (drop v xs) (mid_of 1 (length ss - 1) ss) ys ts r = subst (λ (l : List ℕ). Pruned v b.count score width l (mid_of 1 (length ss - 1) ss) ys ts r) (lent v xs) p₀ in
-      let p : Pruned v b.count score width (drop v xs) (drop 1 ss) ys ts r = subst (λ (l : List Float). Pruned v b.count score width (drop v xs) l ys ts r) (lent 1 ss) p₁ in
-      let fr : r ≤ b.count = p.few in
+      let p₁ : Pruned v (besides b).count score width (drop v xs) (mid_of 1 (length ss - 1) ss) ys ts r = subst (λ (l : List ℕ). Pruned v (besides b).count score width l (mid_of 1 (length ss - 1) ss) ys ts r) (lent v xs) p₀ in
+      let p : Pruned v (besides b).count score width (drop v xs) (drop 1 ss) ys ts r = subst (λ (l : List Float). Pruned v (besides b).count score width (drop v xs) l ys ts r) (lent 1 ss) p₁ in
+      let fr : r ≤ (besides b).count = p.few in
       let ly : length ys ≡ length xs - v = p.beyond.longx ∙ length-drop v xs in
       let lt : length ts ≡ length ss - 1 = p.beyond.longs ∙ length-drop 1 ss in
       let lv : length (take v xs) ≡ v = length-take-le v xs (omega arith) in
       let x₁ : put_mid v (length xs - v) xs ys ≡ take v xs ++ ys = back v xs ys (omega arith) in
       let s₁ : set (put_mid 1 (length ss - 1) ss ts) 0 score ≡ score ∷ ts = ap (λ (l : List Float). set l 0 score) (back 1 ss ts (omega arith)) ∙ set_first ss ts score (omega arith) in
-      let dy : drop (m * v) ys ≡ drop (m * v) (drop v xs) = drop_more (b.count * v) (m * v) ys (drop v xs) (mul-le-mul_right v fm) p.beyond.restx in
-      let dt : drop m ts ≡ drop m (drop 1 ss) = drop_more b.count m ts (drop 1 ss) fm p.beyond.rests in
+      let dy : drop (m * v) ys ≡ drop (m * v) (drop v xs) = drop_more ((besides b).count * v) (m * v) ys (drop v xs) (mul-le-mul_right v fm) p.beyond.restx in
+      let dt : drop m ts ≡ drop m (drop 1 ss) = drop_more (besides b).count m ts (drop 1 ss) fm p.beyond.rests in
       let ws : slot_at v (take v xs ++ ys) (m + 1) ≡ slot_at v xs (m + 1) = spare_is v m (take v xs ++ ys) ∙ ap (λ (l : List ℕ). take v (drop (m * v) l)) (drop_at (take v xs) ys v lv) ∙ ap (take v) dy ∙ sym (spare_is v m xs) in
       let lw : length (slot_at v xs (m + 1)) ≡ v = length_slot v xs (m + 1) (rw (add-mul, one-mul) hx) in
       let z₁ : zs ≡ slot_at v xs (m + 1) ++ ys = q ∙ rw (x₁, ws) (put_zero v (take v xs ++ ys) (slot_at v xs (m + 1)) lw ∙ ap (λ (l : List ℕ). slot_at v xs (m + 1) ++ l) (drop_at (take v xs) ys v lv)) in
@@ -118,28 +121,33 @@ module _ {v m : ℕ} {b : Holding} {xs : List ℕ} {ss : List Float} where
       let dz : drop v zs ≡ ys = rw z₁ (drop_at (slot_at v xs (m + 1)) ys v lw) in
       let lz : length zs ≡ length xs = rw z₁ (length-append (slot_at v xs (m + 1)) ys ∙ rw (lw, ly) (omega arith)) in
       rw s₁ (record {
-        some = refl;
         step = record {
           tidy = record {
             few = omega arith;
             longx = rw lz hx;
             longs = omega arith;
-            unused = rw dz (blank_rest (held_in v m ys ts) (blank v) r b.count m (length_held v m ys ts) fr fm
-                (held_take v b.count m ys ts fm ∙ p.rest ∙ ap (λ (l : List Held). l ++ replicate (b.count - r) (blank v)) (sym (held_take v r m ys ts (omega arith))))
-                (held_drop v b.count m ys ts fm ∙ ap₂ (held_in v (m - b.count)) p.beyond.restx p.beyond.rests ∙ sym (held_drop v b.count m (drop v xs) (drop 1 ss) fm) ∙ t.unused));
+            unused = rw dz (blank_rest (held_in v m ys ts) (blank v) r (besides b).count m (length_held v m ys ts) fr fm
+                (held_take v (besides b).count m ys ts fm ∙ p.rest ∙ ap (λ (l : List Held). l ++ replicate ((besides b).count - r) (blank v)) (sym (held_take v r m ys ts (omega arith))))
+                (held_drop v (besides b).count m ys ts fm ∙ ap₂ (held_in v (m - (besides b).count)) p.beyond.restx p.beyond.rests ∙ sym (held_drop v (besides b).count m (drop v xs) (drop 1 ss) fm) ∙ t.unused));
             fresh = λ e. absurd (true≢false e);
           };
-          view = rw (tz, dz) (ap (λ (l : List Held). record { best = record { words = slot_at v xs (m + 1); score = score } ∷ []; tied = l; discarded = b.discarded }) p.tied);
+          view = rw (tz, dz) (ap (λ (l : List Held). record { best = record { words = slot_at v xs (m + 1); score = score } ∷ []; tied = l; discarded = (besides b).discarded }) p.tied);
           beyond = beyond_of v m xs ss zs (score ∷ ts) lz (omega arith) (rw dz dy) dt;
         };
       })
 
+  pub replaced_with : {score width : Float} {ys : List ℕ} {ts : List Float} {r : ℕ} {zs : List ℕ} {h : Holding} → h ≡ besides b → Tidy v m b xs ss
+      → Pruned v h.count score width (mid_of v (length xs - v) xs) (mid_of 1 (length ss - 1) ss) ys ts r
+      → zs ≡ put_slot v (put_mid v (length xs - v) xs ys) 0 (slot_at v (put_mid v (length xs - v) xs ys) (m + 1))
+      → Replaced v m width score b xs ss zs (set (put_mid 1 (length ss - 1) ss ts) 0 score) (record { count = r; discarded = h.discarded })
+  replaced_with e t p q = rw e (replaced_law t (rw e at p) q)
+
 -- ---- the incumbent is replaced, or stands
-low_is : (v m : ℕ) (b : Holding) (xs : List ℕ) (ss : List Float) (score width : Float) (h c : Bool) → b.has ≡ h → pick h (Ieee.lt score (get_or ss 0 nan)) true ≡ c
+low_is : (v m : ℕ) (b : Option Holding) (xs : List ℕ) (ss : List Float) (score width : Float) (h c : Bool) → is_some b ≡ h → pick h (Ieee.lt score (get_or ss 0 nan)) true ≡ c
     → pick c (replaced held_score width (offered_of v m xs score) (view_of v b xs ss)) (view_of v b xs ss) ≡ lowered held_score same_held m width (offered_of v m xs score) (view_of v b xs ss)
 unfolding lowered view_of offered_of
 low_is v m b xs ss score width h c e f = ap (λ (c : Bool). pick c (replaced held_score width (offered_of v m xs score) (view_of v b xs ss)) (view_of v b xs ss))
-    (sym (go h b.has e f))
+    (sym (go h (is_some b) e f))
   where
     go : (h k : Bool) → k ≡ h → pick h (Ieee.lt score (get_or ss 0 nan)) true ≡ c → lowers held_score (offered_of v m xs score) (pick k (first_of v xs ss ∷ []) []) ≡ c
     go true true e f = f
@@ -150,18 +158,18 @@ low_is v m b xs ss score width h c e f = ap (λ (c : Bool). pick c (replaced hel
 stepped_as : {v m : ℕ} {xs : List ℕ} {ss : List Float} {ys : List ℕ} {ts : List Float} {r : Holding} {t u : Kept Held} → Stepped v m xs ss ys ts r t → t ≡ u → Stepped v m xs ss ys ts r u
 stepped_as s e = record { tidy = s.tidy; view = s.view ∙ e; beyond = s.beyond }
 
-stepped_none : {v m : ℕ} {xs : List ℕ} {ss : List Float} {b : Holding} {u : Kept Held} → Tidy v m b xs ss → view_of v b xs ss ≡ u → Stepped v m xs ss xs ss b u
+stepped_none : {v m : ℕ} {xs : List ℕ} {ss : List Float} {b : Holding} {u : Kept Held} → Tidy v m (Some b) xs ss → view_of v (Some b) xs ss ≡ u → Stepped v m xs ss xs ss b u
 stepped_none t e = record { tidy = t; view = e; beyond = beyond_none _ _ }
 
-module _ {v m : ℕ} {width score : Float} {b : Holding} {xs : List ℕ} {ss : List Float} where
-  pub low_lower : {k : Bool} {ys : List ℕ} {ts : List Float} {r : Holding} → Replaced v m width score b xs ss ys ts r → b.has ≡ true → k ≡ Ieee.lt score (get_or ss 0 nan) → k ≡ true → Lowered v m width score b xs ss ys ts r
-  low_lower s h f e = record { some = s.some; step = stepped_as s.step (low_is v m b xs ss score width true true h (sym f ∙ e)) }
+module _ {v m : ℕ} {width score : Float} {xs : List ℕ} {ss : List Float} where
+  pub low_lower : {b : Option Holding} {held : Holding} {k : Bool} {ys : List ℕ} {ts : List Float} {r : Holding} → Replaced v m width score b xs ss ys ts r → b ≡ Some held → k ≡ Ieee.lt score (get_or ss 0 nan) → k ≡ true → Lowered v m width score b xs ss ys ts r
+  low_lower {b = b} s h f e = record { step = stepped_as s.step (low_is v m b xs ss score width true true (ap is_some h) (sym f ∙ e)) }
 
-  pub low_first : {ys : List ℕ} {ts : List Float} {r : Holding} → Replaced v m width score b xs ss ys ts r → b.has ≡ false → Lowered v m width score b xs ss ys ts r
-  low_first s h = record { some = s.some; step = stepped_as s.step (low_is v m b xs ss score width false true h refl) }
+  pub low_first : {b : Option Holding} {ys : List ℕ} {ts : List Float} {r : Holding} → Replaced v m width score b xs ss ys ts r → b ≡ None → Lowered v m width score b xs ss ys ts r
+  low_first {b = b} s h = record { step = stepped_as s.step (low_is v m b xs ss score width false true (ap is_some h) refl) }
 
-  pub low_same : {k : Bool} → Tidy v m b xs ss → b.has ≡ true → k ≡ Ieee.lt score (get_or ss 0 nan) → k ≡ false → Lowered v m width score b xs ss xs ss b
-  low_same t h f e = record { some = h; step = stepped_none t (low_is v m b xs ss score width true false h (sym f ∙ e)) }
+  pub low_same : {b : Option Holding} {held : Holding} {k : Bool} → Tidy v m b xs ss → b ≡ Some held → k ≡ Ieee.lt score (get_or ss 0 nan) → k ≡ false → Lowered v m width score b xs ss xs ss held
+  low_same {held = held} t h f e = rw h (record { step = stepped_none (rw h at t) (low_is v m (Some held) xs ss score width true false refl (sym f ∙ e)) })
 
 -- ---- one is added last, or discarded
 ties_put : (v m j : ℕ) (xs : List ℕ) (ss : List Float) (ws : List ℕ) (x : Float) → j < m → m * v + v ≤ length xs → m < length ss → length ws ≡ v
@@ -187,7 +195,7 @@ add_replicate l z n m h e =
     sym (drop-drop 1 n l) ∙ ap (drop 1) e ∙ ap (λ (k : ℕ). drop 1 (replicate k z)) f
 
 module _ {v m : ℕ} {score : Float} {b : Holding} {xs : List ℕ} {ss : List Float} where
-  pub add_full : Tidy v m b xs ss → m ≤ b.count → Adding v m score b xs ss xs ss (record { has = b.has; count = b.count; discarded = true })
+  pub add_full : Tidy v m (Some b) xs ss → m ≤ b.count → Adding v m score b xs ss xs ss (record { count = b.count; discarded = true })
   unfolding view_of
   add_full t h = record {
     step = record {
@@ -197,8 +205,8 @@ module _ {v m : ℕ} {score : Float} {b : Holding} {xs : List ℕ} {ss : List Fl
     };
   }
 
-  pub add_room : {ys : List ℕ} → Tidy v m b xs ss → b.count < m → ys ≡ put_slot v xs (b.count + 1) (slot_at v xs (m + 1))
-      → Adding v m score b xs ss ys (set ss (b.count + 1) score) (record { has = b.has; count = b.count + 1; discarded = b.discarded })
+  pub add_room : {ys : List ℕ} → Tidy v m (Some b) xs ss → b.count < m → ys ≡ put_slot v xs (b.count + 1) (slot_at v xs (m + 1))
+      → Adding v m score b xs ss ys (set ss (b.count + 1) score) (record { count = b.count + 1; discarded = b.discarded })
   unfolding view_of offered_of ties_of
   add_room {ys = ys} t h q =
       let n : ℕ = b.count in
@@ -229,7 +237,7 @@ module _ {v m : ℕ} {score : Float} {b : Holding} {xs : List ℕ} {ss : List Fl
                 ∙ add_replicate (ties_of v m xs ss) (blank v) b.count m h t.unused);
             fresh = λ e. first ∙ t.fresh e;
           };
-          view = rw (lt-ltb b.count m h) (ap₂ (λ (s : Held) (l : List Held). record { best = pick b.has (s ∷ []) []; tied = l; discarded = b.discarded }) first tied);
+          view = rw (lt-ltb b.count m h) (ap₂ (λ (s : Held) (l : List Held). record { best = s ∷ []; tied = l; discarded = b.discarded }) first tied);
           beyond = record {
             longx = ly;
             longs = ls;
@@ -239,41 +247,28 @@ module _ {v m : ℕ} {score : Float} {b : Holding} {xs : List ℕ} {ss : List Fl
         };
       }
 
-module _ {v m : ℕ} {b : Holding} {xs : List ℕ} {ss : List Float} where
-  pub tidy_slot : Tidy v m b xs ss → b.count < m → (b.count + 1) * v + v ≤ length xs
-  tidy_slot t h = slot_fits (b.count + 1) (m + 1) v (length xs) (omega arith) (rw (add-mul, one-mul) (omega (arith, t.longx)))
-
-  pub tidy_spare : Tidy v m b xs ss → (m + 1) * v + v ≤ length xs
-  tidy_spare t = rw (add-mul, one-mul) t.longx
-
-  pub tidy_tied : Tidy v m b xs ss → b.count * v + v ≤ length xs
-  tidy_tied t =
-      let h : b.count * v ≤ m * v = mul-le-mul_right v t.few in
-      omega (arith, t.longx)
-
 -- ---- one that ties, and is not held, is added
-added_is : (v m : ℕ) (b : Holding) (xs : List ℕ) (ss : List Float) (score width : Float) (c d : Bool) → b.has ≡ true → tied_to (get_or ss 0 nan) width score ≡ c
+added_is : (v m : ℕ) (b : Holding) (xs : List ℕ) (ss : List Float) (score width : Float) (c d : Bool) → tied_to (get_or ss 0 nan) width score ≡ c
     → has same_words (slot_at v xs (m + 1)) (slots_of v b.count (drop v xs)) ≡ d
-    → pick (c && not d) (adding (ltb b.count m) (offered_of v m xs score) (view_of v b xs ss)) (view_of v b xs ss) ≡ added held_score same_held m width (offered_of v m xs score) (view_of v b xs ss)
+    → pick (c && not d) (adding (ltb b.count m) (offered_of v m xs score) (view_of v (Some b) xs ss)) (view_of v (Some b) xs ss) ≡ added held_score same_held m width (offered_of v m xs score) (view_of v (Some b) xs ss)
 unfolding added view_of offered_of ties_of
-added_is v m b xs ss score width c d h e f =
+added_is v m b xs ss score width c d e f =
     let new : Held = offered_of v m xs score in
-    let near-is : near held_score width (offered_of v m xs score) (pick b.has (first_of v xs ss ∷ []) []) ≡ c = ap (λ (k : Bool). near held_score width (offered_of v m xs score) (pick k (first_of v xs ss ∷ []) [])) h ∙ e in
     let has-is : has same_held (offered_of v m xs score) (held_in v b.count (drop v xs) (drop 1 ss)) ≡ d = has_held v b.count (drop v xs) (drop 1 ss) (offered_of v m xs score) ∙ f in
     let len : length (held_in v b.count (drop v xs) (drop 1 ss)) ≡ b.count = length_held v b.count (drop v xs) (drop 1 ss) in
-    rw (near-is, has-is, len)
+    rw (e, has-is, len)
 
 module _ {v m : ℕ} {width score : Float} {b : Holding} {xs : List ℕ} {ss : List Float} where
-  pub add_far : {n : Bool} → Tidy v m b xs ss → b.has ≡ true → n ≡ tied_to (get_or ss 0 nan) width score → n ≡ false → Added v m width score b xs ss xs ss b
-  add_far t h g e = record { step = stepped_none t (added_is v m b xs ss score width false (has same_words (slot_at v xs (m + 1)) (slots_of v b.count (drop v xs))) h (sym g ∙ e) refl) }
+  pub add_far : {n : Bool} → Tidy v m (Some b) xs ss → n ≡ tied_to (get_or ss 0 nan) width score → n ≡ false → Added v m width score b xs ss xs ss b
+  add_far t g e = record { step = stepped_none t (added_is v m b xs ss score width false (has same_words (slot_at v xs (m + 1)) (slots_of v b.count (drop v xs))) (sym g ∙ e) refl) }
 
-  pub add_held : {n k : Bool} → Tidy v m b xs ss → b.has ≡ true → n ≡ tied_to (get_or ss 0 nan) width score → n ≡ true
+  pub add_held : {n k : Bool} → Tidy v m (Some b) xs ss → n ≡ tied_to (get_or ss 0 nan) width score → n ≡ true
       → k ≡ has same_words (slot_at v xs (m + 1)) (slots_of v b.count (drop v xs)) → k ≡ true → Added v m width score b xs ss xs ss b
-  add_held t h d e f g = record { step = stepped_none t (added_is v m b xs ss score width true true h (sym d ∙ e) (sym f ∙ g)) }
+  add_held t d e f g = record { step = stepped_none t (added_is v m b xs ss score width true true (sym d ∙ e) (sym f ∙ g)) }
 
-  pub add_new : {n k : Bool} {ys : List ℕ} {ts : List Float} {r : Holding} → Adding v m score b xs ss ys ts r → b.has ≡ true → n ≡ tied_to (get_or ss 0 nan) width score → n ≡ true
+  pub add_new : {n k : Bool} {ys : List ℕ} {ts : List Float} {r : Holding} → Adding v m score b xs ss ys ts r → n ≡ tied_to (get_or ss 0 nan) width score → n ≡ true
       → k ≡ has same_words (slot_at v xs (m + 1)) (slots_of v b.count (drop v xs)) → k ≡ false → Added v m width score b xs ss ys ts r
-  add_new s h d e f g = record { step = stepped_as s.step (added_is v m b xs ss score width true false h (sym d ∙ e) (sym f ∙ g)) }
+  add_new s d e f g = record { step = stepped_as s.step (added_is v m b xs ss score width true false (sym d ∙ e) (sym f ∙ g)) }
 
 -- ---- the spare is zeroed
 pub held_put_past : (v n j : ℕ) (xs : List ℕ) (ss : List Float) (ws : List ℕ) → n ≤ j → j * v + v ≤ length xs → held_in v n (put_slot v xs j ws) ss ≡ held_in v n xs ss
@@ -296,11 +291,11 @@ spare_same : (v m : ℕ) (xs ys : List ℕ) → drop ((m + 1) * v) ys ≡ drop (
 unfolding slot_at part
 spare_same v m xs ys e = ap (take v) e
 
-pub recorded : {v m : ℕ} {width score : Float} {b t u : Holding} {xs x₁ x₂ x₃ : List ℕ} {ss s₁ s₂ : List Float} → Lowered v m width score b xs ss x₁ s₁ t → Added v m width score t x₁ s₁ x₂ s₂ u
+pub recorded : {v m : ℕ} {width score : Float} {b : Option Holding} {t u : Holding} {xs x₁ x₂ x₃ : List ℕ} {ss s₁ s₂ : List Float} → Lowered v m width score b xs ss x₁ s₁ t → Added v m width score t x₁ s₁ x₂ s₂ u
     → x₃ ≡ put_slot v x₂ (m + 1) (replicate v 0) → Recorded v m width score b xs ss x₃ s₂ u
 unfolding view_of offered_of ties_of keep_one
 recorded {v} {m} {width} {score} {b} {t} {u} {xs} {x₁} {x₂} {x₃} {ss} {s₁} {s₂} p q e =
-    let a : Tidy v m u x₂ s₂ = q.step.tidy in
+    let a : Tidy v m (Some u) x₂ s₂ = q.step.tidy in
     let bd : Beyond v (m + 1) xs ss x₂ s₂ = beyond_on p.step.beyond q.step.beyond in
     let hx : m * v + v + v ≤ length x₂ = a.longx in
     let sf : (m + 1) * v + v ≤ length x₂ = rw (add-mul, one-mul) hx in

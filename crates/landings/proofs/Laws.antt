@@ -4,17 +4,19 @@ use native.Mathlib.Nat.{eq-or-lt_of_le}
 use native.Mathlib.Omega.{arith}
 use native.Mathlib.Decide.{ℕ_discrete}
 use mathlib.Core.Path.{◌≡◌, refl, sym, ap, ◌∙◌}
-use mathlib.Core.Bool.{Bool, true, false}
+use mathlib.Core.Bool.{Bool, true, false, ◌&&◌, beq}
+use Rattle.std.proofs.Math.Bool.{and_assoc}
 use mathlib.Core.List.{List}
 use mathlib.Core.Logic.{◌⊎◌, inl, inr}
 use mir.Val.{Fits}
 use borrow.Author.Rules.{Fits-under}
 use mir.Syntax.{w64}
-use lib.Dec.{leb, ltb, eqb}
-use lib.ListN.{length, get_or, take, drop, length-drop, set, length-set, replicate, length-replicate, get_or-replicate}
-use lib.Seq.{length-take-le, get_or-set_same, get_or-set_other}
-use borrow.Author.Tests.{eq-eqb, ne_eqb, le-leb, leb-true, lt-ltb, ltb-true}
-use Rattle.ground.proofs.ListLaws.{Falls, Cut, cut_up, cut_down}
+use lib.Dec.{eqb}
+use lib.ListN.{length, get_or, take, drop, set, length-set, replicate, length-replicate, get_or-replicate}
+use lib.Seq.{get_or-set_same, get_or-set_other}
+use borrow.Author.Tests.{le-leb, leb-true, lt-ltb, ltb-true}
+use Rattle.ground.specs.Lists.{count}
+use Rattle.ground.proofs.ListLaws.{Falls, cut_start, point_counts}
 use Rattle.storage.specs.Records.{port_of, cut_offset, no_port, padded, same_turn}
 use Rattle.storage.specs.Orders.{place_of, bucket_of}
 use Rattle.storage.specs.Inner.{Offset}
@@ -40,9 +42,6 @@ pub offset_small : (k : ℕ) (b : Bool) → cut_offset k b ≤ k
 offset_small k true = omega arith
 offset_small k false = omega arith
 
-pub cut_fits : (s : List ℕ) (at k anchor shift : ℕ) (b : Bool) → anchor ≡ (port_of k (drop at s)).anchor → shift ≡ cut_offset k b → (port_of k (drop at s)).anchor + k ≤ 4294967295 → Fits w64 (anchor + shift)
-cut_fits s at k anchor shift b ea es m = let o = offset_small k b in let l : anchor + shift < 4294967296 = omega arith in Fits-under w64 (anchor + shift) 4294967296 l tt
-
 pub landing_told : (s : List ℕ) (at k source anchor shift : ℕ) → source ≡ (port_of k (drop at s)).source → anchor ≡ (port_of k (drop at s)).anchor → shift ≡ cut_offset k (eqb (get_or s (at + k + 16) 0) 1)
     → ◌≡◌ {A = Landing} (record { source = source; cut = anchor + shift; reverse = eqb (get_or s (at + k + 16) 0) 1 }) (landing_of k (port_of k (drop at s)))
 unfolding landing_of
@@ -63,15 +62,15 @@ hub_here s h i at acc lt off =
 pub landing_here : (s : List ℕ) (k at : ℕ) (q : Port) (r : Landing) → Here s k q at → r ≡ landing_of k (port_of k (drop at s)) → r ≡ landing_of k q
 landing_here s k at q r e t = t ∙ ap (landing_of k) e.is
 
-module _ (a b : Landing) where
-  pub landing_lanes : (a.source ≡ b.source → ⊥) → false ≡ same_landing a b
-  landing_lanes n = rw (ne_eqb a.source b.source n)
+-- two orientations, and two landings, as the code compares them
+pub turns_same : (a b : Bool) → beq a b ≡ same_turn a b
+turns_same true true = refl
+turns_same true false = refl
+turns_same false true = refl
+turns_same false false = refl
 
-  pub landing_turns : (r : Bool) → a.source ≡ b.source → a.cut ≡ b.cut → r ≡ same_turn a.reverse b.reverse → r ≡ same_landing a b
-  landing_turns r e f t = t ∙ rw (eq-eqb a.source b.source e, eq-eqb a.cut b.cut f)
-
-  pub landing_cuts : a.source ≡ b.source → (a.cut ≡ b.cut → ⊥) → false ≡ same_landing a b
-  landing_cuts e n = rw (eq-eqb a.source b.source e, ne_eqb a.cut b.cut n)
+pub landings_same : (a b : Landing) → (eqb a.source b.source && (eqb a.cut b.cut && beq a.reverse b.reverse)) ≡ same_landing a b
+landings_same a b = rw (turns_same a.reverse b.reverse) (sym (and_assoc (eqb a.source b.source) (eqb a.cut b.cut) (same_turn a.reverse b.reverse)))
 
 -- ---- the first port past a cut
 
@@ -102,37 +101,20 @@ reach_fits s h l i anchor shift b acc st lt ea es =
     let z : anchor + shift < 4294967296 = omega arith in
     Fits-under w64 (anchor + shift) 4294967296 z tt
 
-module _ (q : Port) (k cut anchor shift : ℕ) (reverse : Bool) (ea : anchor ≡ q.anchor) (es : shift ≡ cut_offset k reverse) where
-  pub reached_reverse : reverse ≡ true → ltb (anchor + shift) cut ≡ reached k reverse cut q
-  unfolding reached
-  reached_reverse e = rw (ea, es, e)
-
-  pub reached_forward : reverse ≡ false → leb (anchor + shift) cut ≡ reached k reverse cut q
-  unfolding reached
-  reached_forward e = rw (ea, es, e)
-
-module _ (s : List ℕ) (h : Header) (l : Lane) (reverse : Bool) (cut lo hi : ℕ) (r : Bool) (acc : Accepted s h) (stands : Stands s h l)
-    (so : Cut (reached h.k reverse cut) (ports_of h s l.number) no_port l.count lo hi) (lt : lo < hi) (test : r ≡ reached h.k reverse cut (get_or (ports_of h s l.number) (lo + (hi - lo) / 2) no_port)) where
-  falls : Falls (reached h.k reverse cut) (ports_of h s l.number) no_port
-  falls = reached_falls h.k cut reverse (ports_of h s l.number) (row_rises s h l stands acc.rows)
-
-  pub first_up : r ≡ true → Cut (reached h.k reverse cut) (ports_of h s l.number) no_port l.count (lo + (hi - lo) / 2 + 1) hi
-  first_up = cut_up (reached h.k reverse cut) (ports_of h s l.number) no_port l.count lo hi _ r so lt refl test (row_length s h l stands) falls
-
-  pub first_down : r ≡ false → Cut (reached h.k reverse cut) (ports_of h s l.number) no_port l.count lo (lo + (hi - lo) / 2)
-  first_down = cut_down (reached h.k reverse cut) (ports_of h s l.number) no_port l.count lo hi _ r so lt refl test (row_length s h l stands) falls
+-- where a search by halves of a lane's list ends
+pub reached_point : (s : List ℕ) (h : Header) (l : Lane) (reverse : Bool) (cut r : ℕ) → Accepted s h → Stands s h l → (0 ≤ r) × (r ≤ l.count)
+    → (0 < r → true ≡ reached h.k reverse cut (get_or (ports_of h s l.number) (r - 1) no_port)) → (r < l.count → false ≡ reached h.k reverse cut (get_or (ports_of h s l.number) r no_port))
+    → r ≡ count (reached h.k reverse cut) (ports_of h s l.number)
+reached_point s h l reverse cut r acc stands room last first =
+    let falls : Falls (reached h.k reverse cut) (ports_of h s l.number) no_port = reached_falls h.k cut reverse (ports_of h s l.number) (row_rises s h l stands acc.rows) in
+    let start = cut_start (reached h.k reverse cut) (ports_of h s l.number) no_port l.count in
+    point_counts (reached h.k reverse cut) (ports_of h s l.number) no_port l.count 0 l.count r falls start (row_length s h l stands) room last first
 
 -- ---- a port's bucket
 
 word_of : (s : List ℕ) (k at : ℕ) → padded (take k (drop at s)) k ≡ (port_of k (drop at s)).word
 unfolding port_of
 word_of s k at = refl
-
--- the word lent from its place has k letters
-pub word_length : (s : List ℕ) (k at : ℕ) (q : Port) → Here s k q at → length (take (at + k - at) (drop at s)) ≡ k
-word_length s k at q e =
-    let d : at + k - at ≡ k = omega arith in
-    rw d (length-take-le k (drop at s) (rw length-drop (let r = e.room in omega arith)))
 
 pub bucket_told : (s : List ℕ) (k at : ℕ) (q : Port) (m : Members) (l : List Port) → Here s k q at → m ≡ bucket_of (padded (take (at + k - at) (drop at s)) k) l → m ≡ bucket_of q.word l
 bucket_told s k at q m l e t =

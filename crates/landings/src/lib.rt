@@ -3,16 +3,16 @@
 
 ghost use Rattle.std.specs.Prelude.{◌≡◌, ◌+◌, ◌≤◌, ◌<◌, length, drop, get_or, replicate};
 ghost use Rattle.ground.specs.Lists.{count};
-ghost use Rattle.storage.specs.Records.{port_of, record_size, same_turn, no_port};
+ghost use Rattle.storage.specs.Records.{port_of, record_size, no_port};
 ghost use Rattle.storage.specs.Orders.{bucket_of};
 ghost use Rattle.image.specs.Image.{ports_of, hub};
 ghost use Rattle.image.specs.Inner.{Stands};
 ghost use Rattle.image.specs.Panel.{panel_of};
 ghost use Rattle.panel.specs.Inner.{Accepted};
-ghost use Rattle.landings.specs.Inner.{landing_of, same_landing, reached, Here, memo_words, Known};
+ghost use Rattle.landings.specs.Inner.{landing_of, reached, Here, memo_words, Known};
 
 // Where a port lands: its lane, cut and orientation.
-#[derive(Clone, Copy)]
+#[derive(Clone, Copy, PartialEq, Eq, Debug)]
 pub struct Landing {
     pub source: u64,
     pub cut: u64,
@@ -39,58 +39,36 @@ fn landing_at(image: &[u8], at: usize, k: usize) -> Landing
     requires { (at + record_size k ≤ length image.now) × ((port_of k (drop at image.now)).anchor + k ≤ 4294967295) }
     ensures { result ≡ landing_of k (port_of k (drop at image.now)) }
 {
-    let source = storage::source_at(image, at, k);
-    let anchor = storage::anchor_at(image, at, k);
     let reverse = image[at + k + 16] == 1;
-    let shift = storage::cut_offset(k, reverse);
     Landing {
-        source,
-        cut: anchor + shift,
+        source: storage::source_at(image, at, k),
+        cut: storage::anchor_at(image, at, k) + storage::cut_offset(k, reverse),
         reverse,
     }
 }
 
 // Where record i of a lane's list lands.
+#[tactic(auto, using(crate::proofs::Laws::landing_here))]
 pub fn lane_landing(image: &[u8], h: image::Header, l: image::Lane, i: usize) -> Landing
     requires { Accepted image.now h × Stands image.now h l × (i < l.count) }
     ensures { result ≡ landing_of h.k (get_or (ports_of h image.now l.number) i no_port) }
 {
-    let at = lane_offset(image, h, l, i);
-    landing_at(image, at, h.k)
+    landing_at(image, lane_offset(image, h, l, i), h.k)
 }
 
 // Where record i of the global list lands.
+#[tactic(auto, using(crate::proofs::Laws::landing_here))]
 pub fn hub_landing(image: &[u8], h: image::Header, i: usize) -> Landing
     requires { Accepted image.now h × (i < h.ports) }
     ensures { result ≡ landing_of h.k (get_or (hub h image.now) i no_port) }
 {
-    let at = hub_offset(image, h, i);
-    landing_at(image, at, h.k)
-}
-
-pub fn is_same_turn(a: bool, b: bool) -> bool
-    ensures { result ≡ same_turn a b }
-{
-    if a { b } else { !b }
-}
-
-pub fn is_same_landing(a: Landing, b: Landing) -> bool
-    ensures { result ≡ same_landing a b }
-{
-    if a.source == b.source {
-        if a.cut == b.cut {
-            is_same_turn(a.reverse, b.reverse)
-        } else {
-            false
-        }
-    } else {
-        false
-    }
+    landing_at(image, hub_offset(image, h, i), h.k)
 }
 
 // ---- the first port past a cut
 
 // Whether record i of a lane's list lies before a cut, or (forward) at it, by this orientation.
+#[tactic(auto, unfolding(crate::specs::Inner::reached))]
 fn is_reached(
     image: &[u8],
     h: image::Header,
@@ -102,9 +80,7 @@ fn is_reached(
     requires { Accepted image.now h × Stands image.now h l × (i < l.count) }
     ensures { result ≡ reached h.k reverse cut (get_or (ports_of h image.now l.number) i no_port) }
 {
-    let anchor = image::lane_anchor(image, h, l, i);
-    let shift = storage::cut_offset(h.k, reverse);
-    let at = anchor + shift;
+    let at = image::lane_anchor(image, h, l, i) + storage::cut_offset(h.k, reverse);
     if reverse { at < cut } else { at <= cut }
 }
 
@@ -119,17 +95,7 @@ pub fn ports_reached(
     requires { Accepted image.now h × Stands image.now h l }
     ensures { result ≡ count (reached h.k reverse cut) (ports_of h image.now l.number) }
 {
-    let mut lo = 0;
-    let mut hi = l.count;
-    while lo < hi {
-        let mid = lo + (hi - lo) / 2;
-        if is_reached(image, h, l, cut, reverse, mid) {
-            lo = mid + 1;
-        } else {
-            hi = mid;
-        }
-    }
-    lo
+    ground::partition_point(0, l.count, |i| is_reached(image, h, l, cut, reverse, i))
 }
 
 // ---- a port's bucket
@@ -152,8 +118,7 @@ fn sought_bucket(image: &[u8], h: image::Header, l: image::Lane, i: usize) -> st
     ensures { result ≡ bucket_of (get_or (ports_of h image.now l.number) i no_port).word (panel_of image.now).hub }
 {
     let at = lane_offset(image, h, l, i);
-    let end = at + h.k;
-    graph::panel_bucket(image, h, &image[at..end])
+    graph::panel_bucket(image, h, &image[at..at + h.k])
 }
 
 // The same by way of the memo: a bucket that was found before is not sought again.

@@ -1,8 +1,6 @@
 -- Laws of 39 and 40: one for each way through the code.
 use Prim.Native.Nat.{ℕ, zero, suc, ◌+◌, ◌-◌, ◌*◌, ◌≤◌, ◌<◌}
 use native.Mathlib.Omega.{arith}
-use native.Mathlib.Decide.{dec_lt}
-use native.Mathlib.Nat.{not-suc-le-zero}
 use mathlib.Core.Path.{◌≡◌, refl, sym, ap, ap₂, ◌∙◌, subst}
 use mathlib.Core.Bool.{Bool, true, false, ◌&&◌}
 use mathlib.Core.List.{List, [], ◌∷◌, Memᴰ}
@@ -12,7 +10,10 @@ use lib.Seq.{take_at, take_all, ext_get_or}
 use mir.Val.{Fits}
 use mir.Syntax.{w64}
 use borrow.Author.Rules.{Fits-under}
-use borrow.Author.Tests.{eqb-true, leb-true}
+use borrow.Author.Tests.{eq-eqb, eqb-true, leb-true}
+use Rattle.std.specs.List.{list_all, range_with_len}
+use Rattle.std.proofs.lemmas.List.Sums.{AllPass-from_list_all, list_all-from_AllPass}
+use Rattle.std.proofs.lemmas.List.FromFn.{length-range_with_len, get_or-range_with_len}
 use Rattle.ground.specs.Lists.{sum, all}
 use Rattle.ground.proofs.ListLaws.{both, all_at, sum_part_le}
 use Rattle.ground.proofs.Members.{all_mem, mem_at}
@@ -25,8 +26,10 @@ use Rattle.storage.proofs.Laws.{record_is}
 use Rattle.image.specs.declared.Header.{Header}
 use Rattle.image.specs.declared.Entry.{Entry}
 use Rattle.image.specs.declared.Lane.{Lane}
-use Rattle.image.specs.declared.Opened.{Opened}
-use Rattle.image.specs.declared.Opened.TheVariants.{Good, Refused}
+use Rattle.image.specs.declared.PanelRefusal.{PanelRefusal}
+use Rattle.image.specs.Header.{refusal_number}
+use Rattle.std.specs.declared.result.Result.{Result}
+use Rattle.std.specs.declared.result.Result.TheVariants.{Ok, Err}
 use Rattle.image.specs.Image.{entries, no_entry, ports_of}
 use Rattle.image.specs.Inner.{Framed, Stands}
 use Rattle.image.specs.Panel.{Panel, panel_of, lane_at, no_lane}
@@ -38,7 +41,11 @@ use Rattle.graph.proofs.PanelLaws.{lane_known, lane_source, lane_ends, hub_in_la
 use Rattle.evaluate.specs.declared.Refusal.{Refusal}
 use Rattle.evaluate.specs.Refusals.{no_refusal, at}
 use Rattle.evaluate.proofs.Ports.{same_word_is, word_same_of}
-use Rattle.evaluate.proofs.Native.{checked_none}
+use Rattle.graph.proofs.Laws.{refusal_some}
+use Rattle.letters.specs.declared.LettersRefusal.{LettersRefusal}
+use Rattle.letters.specs.declared.CheckRefusal.{CheckRefusal}
+use Rattle.letters.specs.declared.CheckRefusal.TheVariants.{BadPanel, BadLetters}
+use Rattle.letters.specs.Refusals.{number_of, answer_of}
 use Rattle.letters.specs.Letters.{complement, oriented, lengths, length_of, piece, sound39, word_fits, row_fits, sound40, letters_refusal, letters_answer}
 use Rattle.letters.specs.Inner.{Lettered, Based}
 use Rattle.letters.proofs.Reverse.{turned_at, oriented_length}
@@ -71,9 +78,8 @@ module _ (s : List ℕ) (h : Header) (f : Framed s h) where
   pub lane_length_is : (lane : ℕ) (e : Entry) → e ≡ get_or (entries h s) lane no_entry → e.len ≡ get_or (lengths (panel_of s)) lane 0
   lane_length_is lane e q = ap (λ (x : Entry). x.len) q ∙ sym (length_is (panel_of s) lane ∙ (panel_entry s h lane f).0)
 
-pub letters_39 : (p : Panel) (d : List ℕ) (n : ℕ) (a b r : Bool) → n ≡ length d → a ≡ eqb (sum (lengths p)) n → b ≡ all letter (take n (drop 0 d)) → r ≡ (a && b) → r ≡ sound39 p d
-unfolding sound39
-letters_39 p d n a b r e f g q = q ∙ rw (f, g, e, take_all (length d) d (omega arith))
+pub whole : (d : List ℕ) → take (length d) (drop 0 d) ≡ d
+whole d = take_all (length d) d (omega arith)
 
 -- ---- where the lanes' letters begin
 
@@ -117,45 +123,54 @@ based s h d bases at i l so le = record { lettered = l; each = λ j lt. so.fille
 
 -- ---- a word letter by letter
 
--- the words are one up to letter i
-pub record SameTo (v w : List ℕ) (k i : ℕ) : Type 0 where
-  pub within : i ≤ k
-  pub same : (j : ℕ) → j < i → get_or v j 0 ≡ get_or w j 0
-
-pub same_start : (v w : List ℕ) (k : ℕ) → SameTo v w k 0
-same_start v w k = record { within = omega arith; same = λ j lt. absurd (not-suc-le-zero lt) }
-
 module _ (s : List ℕ) (at k : ℕ) (d : List ℕ) (first : ℕ) (r : Bool) (room : at + k ≤ length s) (there : first + k ≤ length d) where
-  left_long : length (part s at k) ≡ k
+  left : List ℕ
+  left = part s at k
+
+  right : List ℕ
+  right = oriented r (part d first k)
+
+  left_long : length left ≡ k
+  unfolding left
   left_long = part_length s at k room
 
-  right_long : length (oriented r (part d first k)) ≡ k
+  right_long : length right ≡ k
+  unfolding right
   right_long = oriented_length r (part d first k) ∙ part_length d first k there
 
-  module _ (i x : ℕ) (so : SameTo (part s at k) (oriented r (part d first k)) k i) where
-    pub same_again : i < k → x ≡ get_or (oriented r (part d first k)) i 0 → get_or s (at + i) 0 ≡ x → SameTo (part s at k) (oriented r (part d first k)) k (i + 1)
-    same_again lt e q = record { within = omega arith; same = λ j h. go j h (dec_lt j i) }
-      where
-        go : (j : ℕ) → j < i + 1 → Dec (j < i) → get_or (part s at k) j 0 ≡ get_or (oriented r (part d first k)) j 0
-        go j h (yes y) = so.same j y
-        go j h (no n) = let z : j ≡ i = omega arith in rw z (part_at s at k i lt ∙ q ∙ e)
+  alike : ℕ → Bool
+  alike i = eqb (get_or s (at + i) 0) (get_or right i 0)
 
-    pub same_other : i < k → x ≡ get_or (oriented r (part d first k)) i 0 → (get_or s (at + i) 0 ≡ x → ⊥) → false ≡ same_word (padded (part s at k) k) (padded (oriented r (part d first k)) k)
-    same_other lt e ne = go (same_word (padded (part s at k) k) (padded (oriented r (part d first k)) k)) refl
-      where
-        go : (b : Bool) → same_word (padded (part s at k) k) (padded (oriented r (part d first k)) k) ≡ b → false ≡ b
-        go false q = refl
-        go true q =
-            let z : padded (part s at k) k ≡ padded (oriented r (part d first k)) k = same_word_is (padded (part s at k) k) (padded (oriented r (part d first k)) k) q in
-            let y : part s at k ≡ oriented r (part d first k) = sym (take_at (part s at k) (replicate (32 - k) 0) k left_long) ∙ ap (take k) z ∙ take_at (oriented r (part d first k)) (replicate (32 - k) 0) k right_long in
-            absurd (ne (sym (part_at s at k i lt) ∙ ap (λ (l : List ℕ). get_or l i 0) y ∙ sym e))
+  each_alike : list_all alike (range_with_len 0 k) ≡ true → left ≡ right
+  unfolding left alike
+  each_alike e = ext_get_or 0 left right (left_long ∙ sym right_long) (λ i lt. here i (let l = left_long in omega arith))
+    where
+      here : (i : ℕ) → i < k → get_or left i 0 ≡ get_or right i 0
+      here i lt =
+          let passes : alike (get_or (range_with_len 0 k) i 0) ≡ true = AllPass-from_list_all alike (range_with_len 0 k) e i 0 (rw length-range_with_len lt) in
+          let place : get_or (range_with_len 0 k) i 0 ≡ i = get_or-range_with_len 0 k i 0 lt ∙ (omega arith) in
+          part_at s at k i lt ∙ eqb-true _ _ (rw place at passes)
 
-    pub same_ends : k ≤ i → true ≡ same_word (padded (part s at k) k) (padded (oriented r (part d first k)) k)
-    same_ends le =
-        let l = left_long in
-        let m = right_long in
-        let e : part s at k ≡ oriented r (part d first k) = ext_get_or 0 (part s at k) (oriented r (part d first k)) (l ∙ sym m) (λ j lt. so.same j (omega arith)) in
-        sym (word_same_of (padded (part s at k) k) (padded (oriented r (part d first k)) k) (ap (λ (v : List ℕ). padded v k) e))
+  all_alike : left ≡ right → list_all alike (range_with_len 0 k) ≡ true
+  unfolding left alike
+  all_alike e = list_all-from_AllPass alike (range_with_len 0 k) (λ i z lt. rw (place i z (rw length-range_with_len at lt)) (here i (rw length-range_with_len at lt)))
+    where
+      place : (i z : ℕ) → i < k → get_or (range_with_len 0 k) i z ≡ i
+      place i z lt = get_or-range_with_len 0 k i z lt ∙ (omega arith)
+
+      here : (i : ℕ) → i < k → alike i ≡ true
+      here i lt = eq-eqb _ _ (sym (part_at s at k i lt) ∙ ap (λ (l : List ℕ). get_or l i 0) e)
+
+  pub word_same : list_all (λ i. eqb (get_or s (at + i) 0) (get_or (oriented r (part d first k)) i 0)) (range_with_len 0 k) ≡ same_word (padded (part s at k) k) (padded (oriented r (part d first k)) k)
+  unfolding left right alike
+  word_same = go (same_word (padded left k) (padded right k)) (list_all alike (range_with_len 0 k)) refl refl
+    where
+      go : (b c : Bool) → same_word (padded left k) (padded right k) ≡ b → list_all alike (range_with_len 0 k) ≡ c → c ≡ b
+      go true c e f =
+          let z : padded left k ≡ padded right k = same_word_is (padded left k) (padded right k) e in
+          sym f ∙ all_alike (sym (take_at left (replicate (32 - k) 0) k left_long) ∙ ap (take k) z ∙ take_at right (replicate (32 - k) 0) k right_long)
+      go false true e f = sym (word_same_of (padded left k) (padded right k) (ap (λ (v : List ℕ). padded v k) (each_alike f))) ∙ e
+      go false false e f = refl
 
 pub fits_by : (p : Panel) (d : List ℕ) (q : Port) (lane k : ℕ) → q.source ≡ lane → p.k ≡ k → same_word q.word (padded (piece p d lane q.anchor k q.reverse) k) ≡ word_fits p d q
 unfolding word_fits
@@ -224,9 +239,9 @@ module _ (s : List ℕ) (h : Header) (d bases : List ℕ) (l : Lane) (i at : ℕ
 
 -- ---- a lane, all lanes
 
-pub row_told : (s : List ℕ) (h : Header) (d : List ℕ) (l : Lane) (lane : ℕ) (r : Bool) → Stands s h l → l.number ≡ lane → r ≡ all (word_fits (panel_of s) d) (ports_of h s l.number) → r ≡ row_fits (panel_of s) d (lane_at (panel_of s) lane)
+pub row_at : (s : List ℕ) (h : Header) (d : List ℕ) → Framed s h → (lane : ℕ) → lane < h.lanes → all (word_fits (panel_of s) d) (ports_of h s lane) ≡ row_fits (panel_of s) d (lane_at (panel_of s) lane)
 unfolding row_fits
-row_told s h d l lane r st e q = q ∙ ap (all (word_fits (panel_of s) d)) (sym (rw (← e) (panel_ports s h l.number st.counted.framed st.lane)))
+row_at s h d f lane lt = ap (all (word_fits (panel_of s) d)) (sym (panel_ports s h lane f lt))
 
 module _ (s : List ℕ) (h : Header) (d : List ℕ) (acc : Accepted s h) where
   pub lanes_known : length (panel_of s).lanes ≡ h.lanes
@@ -279,20 +294,31 @@ pub at_last : (n : ℕ) → record { number = n; place = 0 } ≡ at n 0 no_refus
 at_last zero = refl
 at_last (suc n) = refl
 
-module _ (s : List ℕ) (d : List ℕ) (o : Opened) (eo : o ≡ checked s) where
-  pub answer_good : (h : Header) (n : ℕ) → o ≡ Good h → n ≡ letters_refusal (panel_of s) d → record { number = n; place = 0 } ≡ letters_answer s d
+module _ (s : List ℕ) (d : List ℕ) (o : Result Header PanelRefusal) (eo : o ≡ checked s) where
+  pub answer_good : (h : Header) (n : ℕ) → o ≡ Ok h → n ≡ letters_refusal (panel_of s) d → record { number = n; place = 0 } ≡ letters_answer s d
   unfolding letters_answer panel_refusal
   answer_good h n t e = at_last n ∙ rw (← eo, t, e)
 
   -- 1 to 8 come first, whatever is asked after them
-  pub panel_first : (n : ℕ) (later : Refusal) → o ≡ Refused n → record { number = n; place = 0 } ≡ at (panel_refusal s) 0 later
+  pub panel_first : (x : PanelRefusal) (n : ℕ) (later : Refusal) → o ≡ Err x → n ≡ refusal_number x → record { number = n; place = 0 } ≡ at (panel_refusal s) 0 later
   unfolding panel_refusal
-  panel_first n later t = rw (← eo, t) (go n refl)
+  panel_first x n later t is = let some = refusal_some x in rw (← eo, t, ← is) (go n (omega arith))
     where
-      go : (m : ℕ) → n ≡ m → record { number = m; place = 0 } ≡ at m 0 later
-      go zero e = absurd (checked_none s (sym eo ∙ t ∙ ap Refused e))
-      go (suc m) e = refl
+      go : (m : ℕ) → 0 < m → record { number = m; place = 0 } ≡ at m 0 later
+      go zero h = let z : ⊥ = omega arith in absurd z
+      go (suc m) h = refl
 
-  pub answer_refused : (n : ℕ) → o ≡ Refused n → record { number = n; place = 0 } ≡ letters_answer s d
+  pub answer_refused : (x : PanelRefusal) (n : ℕ) → o ≡ Err x → n ≡ refusal_number x → record { number = n; place = 0 } ≡ letters_answer s d
   unfolding letters_answer
-  answer_refused n t = panel_first n (at (letters_refusal (panel_of s) d) 0 no_refusal) t
+  answer_refused x n t is = panel_first x n (at (letters_refusal (panel_of s) d) 0 no_refusal) t is
+
+-- what the call answers
+module _ (s : List ℕ) (d : List ℕ) where
+  pub call_panel : (x : PanelRefusal) (r : Result Unit CheckRefusal) (e : CheckRefusal) → Err x ≡ checked s → r ≡ Err e → e ≡ BadPanel x → answer_of r ≡ letters_answer s d
+  call_panel x r e t q f = rw (q, f) (answer_refused s d (Err x) t x (refusal_number x) refl refl)
+
+  pub call_letters : (h : Header) (x : LettersRefusal) (r : Result Unit CheckRefusal) (e : CheckRefusal) → Ok h ≡ checked s → number_of x ≡ letters_refusal (panel_of s) d → r ≡ Err e → e ≡ BadLetters x → answer_of r ≡ letters_answer s d
+  call_letters h x r e t n q f = rw (q, f) (answer_good s d (Ok h) t h (number_of x) refl n)
+
+  pub call_good : (h : Header) → Ok h ≡ checked s → 0 ≡ letters_refusal (panel_of s) d → no_refusal ≡ letters_answer s d
+  call_good h t n = answer_good s d (Ok h) t h 0 refl n

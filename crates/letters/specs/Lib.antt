@@ -1,3 +1,4 @@
 pub mod Letters
 pub mod Inner
 pub mod Try
+pub mod Refusals

@@ -1,16 +1,18 @@
 // The lanes' letters (02, "The DNA behind the ports"): refusals 39 and 40.
 #![tactic(auto)]
 
-ghost use Rattle.std.specs.Prelude.{◌≡◌, ◌+◌, ◌≤◌, ◌<◌, eqb, length, get_or, replicate};
+ghost use Rattle.std.specs.Prelude.{◌≡◌, ◌+◌, ◌≤◌, ◌<◌, eqb, length, get_or};
 ghost use Rattle.ground.specs.Lists.{pick, sum, all};
 ghost use Rattle.storage.specs.Bytes.{part};
 ghost use Rattle.storage.specs.Records.{no_port, padded, longest_word};
 ghost use Rattle.storage.specs.Orders.{same_word};
 ghost use Rattle.image.specs.Inner.{Framed, Started, Stands};
 ghost use Rattle.image.specs.Image.{ports_of};
-ghost use Rattle.image.specs.Panel.{panel_of, lane_at};
+ghost use Rattle.image.specs.Panel.{panel_of};
 ghost use Rattle.panel.specs.Inner.{Accepted};
-ghost use Rattle.letters.specs.Letters.{complement, oriented, lengths, sound39, word_fits, row_fits, sound40, letters_refusal, letters_answer};
+ghost use Rattle.letters.specs.Letters.{complement, oriented, lengths, sound39, word_fits, sound40, letters_refusal, letters_answer};
+ghost use Rattle.letters.specs.Refusals.{number_of, refusal_of, check_number, answer_of};
+ghost use Rattle.letters.specs.declared.CheckRefusal.TheVariants.{BadPanel, BadLetters};
 ghost use Rattle.letters.specs.Inner.{Lettered, Based};
 
 // ---- letters
@@ -49,41 +51,23 @@ fn lane_length(image: &[u8], h: image::Header, lane: usize) -> usize
     requires { Framed image.now h × (lane < h.lanes) }
     ensures { result ≡ get_or (lengths (panel_of image.now)) lane 0 }
 {
-    let e = image::lane_entry(image, h, lane);
-    e.len as usize
+    image::lane_entry(image, h, lane).len as usize
 }
 
-// The lengths are taken from the number of letters one by one, so that no sum wraps.
 fn is_total(image: &[u8], h: image::Header, total: usize) -> bool
     requires { Framed image.now h }
     ensures { result ≡ eqb (sum (lengths (panel_of image.now))) total }
 {
-    let n = h.lanes;
-    let mut left = total;
-    let mut i = 0;
-    while i < n {
-        let x = lane_length(image, h, i);
-        if left < x {
-            return false;
-        }
-        left -= x;
-        i += 1;
-    }
-    ground::same(0, left)
+    ground::adds_up(h.lanes, total, |lane| lane_length(image, h, lane))
 }
 
+#[tactic(auto, using(crate::proofs::Laws::whole), unfolding(crate::specs::Letters::sound39))]
 fn are_lane_letters(image: &[u8], h: image::Header, letters: &[u8]) -> bool
     requires { Framed image.now h }
     ensures { result ≡ sound39 (panel_of image.now) letters.now }
 {
     let n = letters.len();
-    ground::both(is_total(image, h, n), panel::are_letters(letters, 0, n))
-}
-
-fn no_bases() -> [usize; image::Header::LANES]
-    ensures { result ≡ replicate 4096 0 }
-{
-    [0usize; image::Header::LANES]
+    is_total(image, h, n) && panel::are_letters(letters, 0, n)
 }
 
 // Where each lane's letters begin.
@@ -91,15 +75,11 @@ pub fn lane_bases(image: &[u8], h: image::Header, letters: &[u8]) -> [usize; ima
     requires { Lettered image.now h letters.now }
     ensures { Based image.now h letters.now result }
 {
-    let n = h.lanes;
-    let mut bases = no_bases();
+    let mut bases = [0usize; image::Header::LANES];
     let mut at = 0;
-    let mut i = 0;
-    while i < n {
-        bases[i] = at;
-        let x = lane_length(image, h, i);
-        at += x;
-        i += 1;
+    for lane in 0..h.lanes {
+        bases[lane] = at;
+        at += lane_length(image, h, lane);
     }
     bases
 }
@@ -111,16 +91,7 @@ fn is_word(image: &[u8], at: usize, k: usize, letters: &[u8], first: usize, reve
     requires { (at + k ≤ length image.now) × (first + k ≤ length letters.now) × (k ≤ longest_word) }
     ensures { result ≡ same_word (padded (part image.now at k) k) (padded (oriented reverse (part letters.now first k)) k) }
 {
-    let mut i = 0;
-    while i < k {
-        let x = letter_at(letters, first, k, reverse, i);
-        if image[at + i] == x {
-            i += 1;
-        } else {
-            return false;
-        }
-    }
-    true
+    (0..k).all(|i| image[at + i] == letter_at(letters, first, k, reverse, i))
 }
 
 // Of record i of a lane's list.
@@ -154,31 +125,7 @@ fn are_words_of(
     requires { Based image.now h letters.now bases.now × Stands image.now h l }
     ensures { result ≡ all (word_fits (panel_of image.now) letters.now) (ports_of h image.now l.number) }
 {
-    let n = l.count;
-    let mut i = 0;
-    while i < n {
-        if is_word_of(image, h, letters, bases, l, i) {
-            i += 1;
-        } else {
-            return false;
-        }
-    }
-    true
-}
-
-fn is_lane_worded(
-    image: &[u8],
-    h: image::Header,
-    letters: &[u8],
-    bases: &[usize; image::Header::LANES],
-    starts: &[usize; image::Header::LANES],
-    lane: usize,
-) -> bool
-    requires { Based image.now h letters.now bases.now × Started image.now h starts.now × (lane < h.lanes) }
-    ensures { result ≡ row_fits (panel_of image.now) letters.now (lane_at (panel_of image.now) lane) }
-{
-    let l = image::lane_of(image, h, starts, lane);
-    are_words_of(image, h, letters, bases, l)
+    (0..l.count).all(|i| is_word_of(image, h, letters, bases, l, i))
 }
 
 // The lanes' lists suffice: by refusal 8 each global record is one of them.
@@ -192,16 +139,10 @@ fn are_lanes_worded(
     requires { Based image.now h letters.now bases.now × Started image.now h starts.now }
     ensures { result ≡ sound40 (panel_of image.now) letters.now }
 {
-    let n = h.lanes;
-    let mut i = 0;
-    while i < n {
-        if is_lane_worded(image, h, letters, bases, starts, i) {
-            i += 1;
-        } else {
-            return false;
-        }
-    }
-    true
+    (0..h.lanes).all(|lane| {
+        let l = image::lane_of(image, h, starts, lane);
+        are_words_of(image, h, letters, bases, l)
+    })
 }
 
 fn are_words(image: &[u8], h: image::Header, letters: &[u8]) -> bool
@@ -215,30 +156,79 @@ fn are_words(image: &[u8], h: image::Header, letters: &[u8]) -> bool
 
 // ---- the calls
 
+// Why letters are refused.
+#[derive(Clone, Copy, PartialEq, Eq, Debug)]
+pub enum LettersRefusal {
+    // They are not as many as the lanes are long, or not all of them A, C, G or T.
+    Letters,
+    // A port's word is not what they read.
+    Words,
+}
+
+impl LettersRefusal {
+    pub fn number(self) -> u64
+        ensures { result ≡ number_of self }
+    {
+        match self {
+            LettersRefusal::Letters => 39,
+            LettersRefusal::Words => 40,
+        }
+    }
+}
+
 // 39 and 40, of an accepted panel.
-pub fn letters_refusal(image: &[u8], h: image::Header, letters: &[u8]) -> u64
+pub fn letters_refusal(image: &[u8], h: image::Header, letters: &[u8]) -> Result<(), LettersRefusal>
     requires { Accepted image.now h }
-    ensures { result ≡ letters_refusal (panel_of image.now) letters.now }
+    ensures { refusal_of result ≡ letters_refusal (panel_of image.now) letters.now }
 {
-    if are_lane_letters(image, h, letters) {
-        if are_words(image, h, letters) { 0 } else { 40 }
-    } else {
-        39
+    if !are_lane_letters(image, h, letters) {
+        return Err(LettersRefusal::Letters);
+    }
+    if !are_words(image, h, letters) {
+        return Err(LettersRefusal::Words);
+    }
+    Ok(())
+}
+
+// Why the call refuses: the panel first.
+#[derive(Clone, Copy, PartialEq, Eq, Debug)]
+pub enum CheckRefusal {
+    BadPanel(image::PanelRefusal),
+    BadLetters(LettersRefusal),
+}
+
+impl CheckRefusal {
+    pub fn number(self) -> u64
+        ensures { result ≡ check_number self }
+    {
+        match self {
+            CheckRefusal::BadPanel(e) => e.number(),
+            CheckRefusal::BadLetters(e) => e.number(),
+        }
+    }
+}
+
+impl From<image::PanelRefusal> for CheckRefusal {
+    ghost from_gives = { λ e r. r ≡ BadPanel e };
+
+    fn from(e: image::PanelRefusal) -> CheckRefusal {
+        CheckRefusal::BadPanel(e)
+    }
+}
+
+impl From<LettersRefusal> for CheckRefusal {
+    ghost from_gives = { λ e r. r ≡ BadLetters e };
+
+    fn from(e: LettersRefusal) -> CheckRefusal {
+        CheckRefusal::BadLetters(e)
     }
 }
 
 // Whether the letters are those of the lanes, and every port's word is what they read.
-pub fn check_letters(image: &[u8], letters: &[u8]) -> evaluate::Refusal
-    ensures { result ≡ letters_answer image.now letters.now }
+pub fn check_letters(image: &[u8], letters: &[u8]) -> Result<(), CheckRefusal>
+    ensures { answer_of result ≡ letters_answer image.now letters.now }
 {
-    match graph::check_panel(image) {
-        image::Opened::Good(h) => evaluate::Refusal {
-            number: letters_refusal(image, h, letters),
-            place: 0,
-        },
-        image::Opened::Refused(n) => evaluate::Refusal {
-            number: n,
-            place: 0,
-        },
-    }
+    let h = graph::check_panel(image)?;
+    letters_refusal(image, h, letters)?;
+    Ok(())
 }

@@ -10,7 +10,7 @@ use Rattle.search.specs.declared.SearchReply.{SearchReply}
 use Rattle.search.specs.declared.Tally.{Tally}
 use Rattle.search.specs.declared.Status.{Status}
 use Rattle.search.specs.declared.Status.TheVariants.{Certified, SupportIncomplete, WorkExhausted, EvaluationExhausted, FrontierExhausted}
-use Rattle.search.specs.Sheet.{status_text, status_bytes, work_text, evaluations_text, natives_text, donors_text, non_native_text, mixed_text, mixed_identity_text, switches_text, families_text, optima_text, foreign_text, route_text, decimal, line, field, turn_text, tally_lines, routes_lines, foreign}
+use Rattle.search.specs.Sheet.{status_text, status_bytes, optima_text, foreign_text, route_text, decimal, line, field, turn_text, tally_lines, routes_lines, foreign}
 
 -- ---- the answer's fields
 
@@ -32,16 +32,6 @@ tally_in r =
       switches = r.switches;
       families = r.families;
     }
-
--- three of their lines each
-abbrev pub walked_lines : SearchReply → List ℕ
-walked_lines r = field work_text r.work ++ (field evaluations_text r.evaluations ++ field natives_text r.natives)
-
-abbrev pub mixed_lines : SearchReply → List ℕ
-mixed_lines r = field donors_text r.donors ++ (field non_native_text r.non_native ++ field mixed_text r.mixed)
-
-abbrev pub switched_lines : SearchReply → List ℕ
-switched_lines r = field mixed_identity_text r.mixed_identity ++ (field switches_text r.switches ++ field families_text r.families)
 
 -- ---- the incumbent's segments
 

@@ -11,33 +11,22 @@ ghost use Rattle.evaluate.specs.Properties.{Each};
 ghost use Rattle.words.specs.Inner.{segments_of, routes_of, assignment_of};
 ghost use Rattle.search.specs.Sheet.{line, status_text, status_bytes, tally_lines, turn_text, route_lines, routes_lines, foreign_in, foreign_on, foreign, refusal_line};
 ghost use Rattle.text.specs.Inner.{Put};
-ghost use Rattle.lines.specs.Inner.{status_from, walked_lines, mixed_lines, switched_lines, tally_in, slot_text, segment_line, Readable, Low, Few, Incumbent, Held, incumbent_text, sheet_of};
+ghost use Rattle.lines.specs.Inner.{status_from, tally_in, slot_text, segment_line, Readable, Low, Few, Incumbent, Held, incumbent_text, sheet_of};
 
 use search::SearchReply;
 
 // ---- fixed texts
 
-fn put_status_text(out: &mut [u8], at: usize, status: u64) -> usize
-    ensures { Put (status_bytes (status_from status)) out.old at out.new result }
+// A status by its number.
+fn status_text(status: u64) -> &'static [u8]
+    ensures { result.now ≡ status_bytes (status_from status) }
 {
     match status {
-        1 => {
-            text::put_text(
-                out,
-                at,
-                b"domain-exhausted-optimum-and-correlated-support-certified",
-            )
-        }
-        2 => {
-            text::put_text(
-                out,
-                at,
-                b"domain-exhausted-optimum-certified-support-incomplete",
-            )
-        }
-        3 => text::put_text(out, at, b"work-budget-exhausted"),
-        4 => text::put_text(out, at, b"evaluation-budget-exhausted"),
-        _ => text::put_text(out, at, b"frontier-budget-exhausted"),
+        1 => b"domain-exhausted-optimum-and-correlated-support-certified",
+        2 => b"domain-exhausted-optimum-certified-support-incomplete",
+        3 => b"work-budget-exhausted",
+        4 => b"evaluation-budget-exhausted",
+        _ => b"frontier-budget-exhausted",
     }
 }
 
@@ -45,7 +34,7 @@ fn put_status(out: &mut [u8], at: usize, status: u64) -> usize
     ensures { Put (line (status_text ∷ status_bytes (status_from status) ∷ [])) out.old at out.new result }
 {
     let word = text::put_word(out, at, b"status");
-    let end = put_status_text(out, word, status);
+    let end = text::put_text(out, word, status_text(status));
     text::put_byte(out, end, b'\n')
 }
 
@@ -60,36 +49,18 @@ pub fn put_refusal(out: &mut [u8], at: usize, number: u64, place: u64) -> usize
 
 // ---- the counters
 
-fn put_walked(out: &mut [u8], at: usize, r: SearchReply) -> usize
-    ensures { Put (walked_lines r) out.old at out.new result }
-{
-    let evaluations = text::put_field(out, at, b"work", r.work);
-    let natives = text::put_field(out, evaluations, b"evaluations", r.evaluations);
-    text::put_field(out, natives, b"natives", r.natives)
-}
-
-fn put_mixed(out: &mut [u8], at: usize, r: SearchReply) -> usize
-    ensures { Put (mixed_lines r) out.old at out.new result }
-{
-    let non_native = text::put_field(out, at, b"donors", r.donors);
-    let mixed = text::put_field(out, non_native, b"non-native", r.non_native);
-    text::put_field(out, mixed, b"mixed", r.mixed)
-}
-
-fn put_switched(out: &mut [u8], at: usize, r: SearchReply) -> usize
-    ensures { Put (switched_lines r) out.old at out.new result }
-{
-    let switches = text::put_field(out, at, b"mixed-identity", r.mixed_identity);
-    let families = text::put_field(out, switches, b"switches", r.switches);
-    text::put_field(out, families, b"families", r.families)
-}
-
 fn put_tally(out: &mut [u8], at: usize, r: SearchReply) -> usize
     ensures { Put (tally_lines (tally_in r)) out.old at out.new result }
 {
-    let mixed = put_walked(out, at, r);
-    let switched = put_mixed(out, mixed, r);
-    put_switched(out, switched, r)
+    let at = text::put_field(out, at, b"work", r.work);
+    let at = text::put_field(out, at, b"evaluations", r.evaluations);
+    let at = text::put_field(out, at, b"natives", r.natives);
+    let at = text::put_field(out, at, b"donors", r.donors);
+    let at = text::put_field(out, at, b"non-native", r.non_native);
+    let at = text::put_field(out, at, b"mixed", r.mixed);
+    let at = text::put_field(out, at, b"mixed-identity", r.mixed_identity);
+    let at = text::put_field(out, at, b"switches", r.switches);
+    text::put_field(out, at, b"families", r.families)
 }
 
 // ---- the incumbent's segments
@@ -127,13 +98,9 @@ fn put_route(out: &mut [u8], at: usize, slot: u64, words: &[u64], from: usize, l
     ensures { Put (route_lines slot (segments_of left (drop from words.now))) out.old at out.new result }
 {
     let mut to = at;
-    let mut place = from;
-    let mut n = left;
-    while 0 < n {
-        let s = words::segment_at(words, place);
+    for i in 0..left {
+        let s = words::segment_at(words, from + evaluate::Segment::WORDS * i);
         to = put_segment(out, to, slot, s);
-        place += evaluate::Segment::WORDS;
-        n -= 1;
     }
     to
 }
@@ -143,13 +110,11 @@ fn put_routes(out: &mut [u8], at: usize, words: &[u64], routes: usize) -> usize
     ensures { Put (routes_lines 0 (routes_of routes (drop 2 words.now))) out.old at out.new result }
 {
     let mut to = at;
-    let mut place: usize = 2;
-    let mut slot: usize = 0;
-    while slot < routes {
+    let mut place = 2;
+    for slot in 0..routes {
         let left = words::count_at(words, place);
         to = put_route(out, to, slot as u64, words, place + 1, left);
-        place = place + 1 + evaluate::Segment::WORDS * left;
-        slot += 1;
+        place += 1 + evaluate::Segment::WORDS * left;
     }
     to
 }
@@ -162,23 +127,20 @@ fn foreign_of(s: evaluate::Segment, target: u64) -> u64
     ensures { Few (pick (eqb s.source target) 0 (s.end - s.start)) 1 result }
 {
     if s.source == target {
-        return 0;
+        0
+    } else {
+        s.end.saturating_sub(s.start)
     }
-    if s.end < s.start { 0 } else { s.end - s.start }
 }
 
 fn foreign_in(words: &[u64], at: usize, left: usize, target: u64) -> u64
     requires { (at + 4 * left ≤ length words.now) × (length words.now ≤ 65536) × Each Low (segments_of left (drop at words.now)) }
     ensures { Few (foreign_in target (segments_of left (drop at words.now))) left result }
 {
-    let mut sum: u64 = 0;
-    let mut place = at;
-    let mut n = left;
-    while 0 < n {
-        let s = words::segment_at(words, place);
+    let mut sum = 0;
+    for i in 0..left {
+        let s = words::segment_at(words, at + evaluate::Segment::WORDS * i);
         sum += foreign_of(s, target);
-        place += evaluate::Segment::WORDS;
-        n -= 1;
     }
     sum
 }
@@ -188,20 +150,13 @@ fn foreign_on(image: &[u8], h: image::Header, f: image::Family, words: &[u64], r
     requires { Groups image.now h f × Incumbent words.now routes }
     ensures { result ≡ foreign_on (paths_of h image.now f.number) (routes_of routes (drop 2 words.now)) }
 {
-    let mut sum: u64 = 0;
-    let mut place: usize = 2;
-    let mut slot: usize = 0;
-    let count = f.count;
-    while slot < routes {
-        if slot < count {
-            let left = words::count_at(words, place);
-            let target = image::family_path(image, h, f, slot) as u64;
-            sum += foreign_in(words, place + 1, left, target);
-            place = place + 1 + evaluate::Segment::WORDS * left;
-            slot += 1;
-        } else {
-            return sum;
-        }
+    let mut sum = 0;
+    let mut place = 2;
+    for slot in 0..routes.min(f.count) {
+        let left = words::count_at(words, place);
+        let target = image::family_path(image, h, f, slot) as u64;
+        sum += foreign_in(words, place + 1, left, target);
+        place += 1 + evaluate::Segment::WORDS * left;
     }
     sum
 }

@@ -2,11 +2,11 @@
 use Prim.Native.Nat.{ℕ, zero, suc, ◌+◌, ◌-◌, ◌*◌, ◌≤◌, ◌<◌}
 use native.Mathlib.Nat.{add-zero, zero-add, sub-zero}
 use native.Mathlib.Omega.{arith}
-use mathlib.Core.Path.{◌≡◌, refl, sym, ap, ◌∙◌}
+use mathlib.Core.Path.{◌≡◌, refl, ap, ◌∙◌}
 use mathlib.Core.Bool.{Bool, true, false}
 use mathlib.Core.List.{List, [], ◌∷◌, map}
-use lib.ListN.{length, take, drop, length-append, length-drop, take-append-drop, length-map}
-use lib.Seq.{take_at, drop-drop, drop-append-add}
+use lib.ListN.{length, drop, length-append, length-drop, take-append-drop, length-map}
+use lib.Seq.{drop-drop, drop-append-add}
 use Rattle.image.specs.declared.Header.{Header}
 use Rattle.image.specs.declared.Family.{Family}
 use Rattle.image.specs.Inner.{Groups}
@@ -24,7 +24,7 @@ use Rattle.walks.specs.Inner.{walk_of, before}
 use Rattle.writer.specs.Inner.{Written}
 use Rattle.writer.proofs.Laws.{native_length}
 use Rattle.listing.specs.declared.Listing.{Listing}
-use Rattle.listing.specs.Inner.{to_list, Handed, comes_to, none_listed, Spared, Entered}
+use Rattle.listing.specs.Inner.{to_list, Handed, comes_to, none_listed, Spared}
 
 -- ---- the words of an evaluation
 
@@ -34,12 +34,6 @@ module _ (a : Assignment) {xs ys : List ℕ} {n : ℕ} (w : Written (encode a) x
 
   pub words_within : length (encode a) ≤ length xs → length ys ≡ length xs → n ≤ length ys
   words_within l k = let c = w.count in omega arith
-
-  words_are : take n ys ≡ encode a
-  words_are = rw w.room (take_at (encode a) (drop (length (encode a)) xs) n (sym w.count))
-
-  pub entered_told : {l r : Listing} {out out' : List ℕ} → Handed (take n ys) out out' l r → Entered a xs out ys out' l r
-  entered_told h = record { slot = w.room; handed = rw words_are at h }
 
 pieces : (p : Panel) (l : List ℕ) → length (flat (map (whole p) l)) ≡ length l
 pieces p [] = refl

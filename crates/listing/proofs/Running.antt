@@ -1,7 +1,7 @@
 -- The listing under way: from one evaluation to the next, and its end.
-use Prim.Native.Nat.{ℕ, ◌-◌, ◌*◌, ◌≤◌, ◌<◌}
+use Prim.Native.Nat.{ℕ, ◌-◌, ◌≤◌}
 use native.Mathlib.Omega.{arith}
-use mathlib.Core.Path.{◌≡◌, refl, ap, subst, ◌∙◌}
+use mathlib.Core.Path.{◌≡◌, ap, subst, ◌∙◌}
 use mathlib.Core.List.{List}
 use lib.ListN.{length}
 use Rattle.image.specs.declared.Header.{Header}
@@ -12,7 +12,6 @@ use Rattle.evaluate.specs.Words.{encode}
 use Rattle.search.specs.declared.SearchBudget.{SearchBudget}
 use Rattle.search.specs.declared.Stop.{Stop}
 use Rattle.search.specs.Run.{Walked}
-use Rattle.search.specs.Rooms.{frame_width}
 use Rattle.frames.specs.Inner.{frame_of, stack_of}
 use Rattle.walks.specs.declared.Standing.{Standing}
 use Rattle.walks.specs.declared.Halt.TheVariants.{Stopped, Due}
@@ -21,7 +20,7 @@ use Rattle.walks.specs.Inner.{walk_of, to_go, before, ending_of, assigned, halte
 use Rattle.walks.specs.Inner.{Kept as Room}
 use Rattle.listing.specs.declared.Listing.{Listing}
 use Rattle.listing.specs.Inner.{comes_to, Onward, Spared, Entered, Ended}
-use Rattle.listing.proofs.Rest.{spared_none, spared_on, spared_over, comes_one, comes_end}
+use Rattle.listing.proofs.Rest.{spared_on, spared_over, comes_one, comes_end}
 
 -- ---- one evaluation further
 
@@ -45,10 +44,6 @@ pub record Under (s : List ℕ) (h : Header) (b : SearchBudget) (v : ℕ) (w : W
   pub frames : Room b fs fs'
   pub slot : Spared v xs xs'
   pub long : length out' ≡ length out
-
-pub under_start : {s : List ℕ} {h : Header} {b : SearchBudget} {v : ℕ} {l : Listing} {fs xs out : List ℕ} {at : Standing} → Onward v (to_go (panel_of s) b at.tally fs at.depth) l xs out
-    → Walking s h b fs at.tally at.depth at.start at.clear → Under s h b v (to_go (panel_of s) b at.tally fs at.depth) l fs xs out fs xs out at l
-under_start {s} {h} {b} {v} {l} {fs} {xs} o w = record { same = refl; onward = o; walking = w; frames = record { long = refl; rest = refl }; slot = spared_none v xs; long = refl }
 
 pub room_on : {b : SearchBudget} {xs ys zs : List ℕ} → Room b xs ys → Room b ys zs → Room b xs zs
 room_on k l = record { long = l.long ∙ k.long; rest = l.rest ∙ k.rest }
@@ -74,18 +69,6 @@ module _ {s : List ℕ} {h : Header} {b : SearchBudget} {v : ℕ} {w : Walked} {
 
     due_onward : Onward v (before (assigned q.at.tally.families ys (q.at.depth - 1) d) (to_go (panel_of s) b q.at.tally ys q.at.depth)) l' xs' out'
     due_onward = subst (λ (r : Walked). Onward v r l' xs' out') due_as u.onward
-
-    pub due_fits : length (encode (assigned q.at.tally.families ys (q.at.depth - 1) d)) ≤ length xs'
-    due_fits = onward_fits (assigned q.at.tally.families ys (q.at.depth - 1) d) (to_go (panel_of s) b q.at.tally ys q.at.depth) due_onward
-
-    pub due_some : 0 < q.at.depth
-    due_some = (g.again d due).some
-
-    pub due_room : q.at.depth * frame_width ≤ length ys
-    due_room = let l = g.deep in let k = (g.again d due).held.room in omega arith
-
-    pub due_less : b.max_work - q.at.tally.work < b.max_work - at.tally.work
-    due_less = let m = g.more d due in let w = (g.again d due).held.worked in omega arith
 
     pub under_next : {m : Listing} {zs os : List ℕ} → Entered (assigned q.at.tally.families ys (q.at.depth - 1) d) xs' out' zs os l' m → Under s h b v w l fs xs out ys zs os q.at m
     under_next n =

@@ -43,18 +43,6 @@ unfolding walk sum
 sowing_start {s} {h} {b} {v} {l} {xs} o = record { same = refl; onward = o; few = omega arith; worked = omega arith; begins = refl; slot = spared_none v xs; long = refl }
 
 module _ {s : List ℕ} {h : Header} {b : SearchBudget} {v : ℕ} {l : Listing} {xs out xs' out' : List ℕ} {n start : ℕ} {l' : Listing} (u : Sowing s h b v l xs out xs' out' n start l') where
-  sown_told : (n < h.families → n < b.max_evaluations → b.max_work ≤ n) → Sown (panel_of s) h b v l xs out xs' out' (record { natives = n; listing = l' })
-  sown_told o = record { same = u.same; onward = u.onward; few = u.few; over = o; worked = u.worked; slot = u.slot; long = u.long }
-
-  pub sown-all : h.families ≤ n → Sown (panel_of s) h b v l xs out xs' out' (record { natives = n; listing = l' })
-  sown-all k = sown_told (λ f e. absurd (omega arith))
-
-  pub sown_work : b.max_work ≤ n → Sown (panel_of s) h b v l xs out xs' out' (record { natives = n; listing = l' })
-  sown_work k = sown_told (λ f e. k)
-
-  pub sown_evaluation : b.max_evaluations ≤ n → Sown (panel_of s) h b v l xs out xs' out' (record { natives = n; listing = l' })
-  sown_evaluation k = sown_told (λ f e. absurd (omega arith))
-
   module _ (acc : Accepted s h) (f : n < h.families) (w : n < b.max_work) (e : n < b.max_evaluations) where
     native_as : walk_from (panel_of s) b [] (seed_walk n) ≡ before (native_of (panel_of s) n) (walk_from (panel_of s) b [] (seed_walk (n + 1)))
     native_as = seed_one (panel_of s) b n (rw (panel_families s h acc.counted.framed, families_length s h) f) w e

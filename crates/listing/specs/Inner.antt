@@ -1,5 +1,5 @@
 -- The listing's evaluation, one at a time; nothing here is part of a public promise.
-use Rattle.std.specs.Prelude.{ℕ, ◌+◌, ◌-◌, ◌*◌, ◌≤◌, ◌<◌, ◌≡◌, Bool, true, false, List, [], ◌∷◌, ◌++◌, map, eqb, length, take, drop, replicate}
+use Rattle.std.specs.Prelude.{ℕ, ◌+◌, ◌-◌, ◌*◌, ◌≤◌, ◌<◌, ◌≡◌, Bool, true, false, List, [], ◌∷◌, ◌++◌, map, eqb, length, take, drop, replicate, Result, IfOk}
 use Rattle.ground.specs.Lists.{pick}
 use Rattle.image.specs.declared.Header.{Header}
 use Rattle.image.specs.Panel.{Panel}
@@ -13,6 +13,8 @@ use Rattle.search.specs.declared.SearchBudget.{SearchBudget}
 use Rattle.search.specs.declared.Tally.{Tally}
 use Rattle.search.specs.declared.ListReply.{ListReply}
 use Rattle.search.specs.Budget.{budget_refusal}
+use Rattle.budget.specs.declared.BudgetRefusal.{BudgetRefusal}
+use Rattle.budget.specs.Inner.{refusal_of}
 use Rattle.search.specs.Walk.{Frame}
 use Rattle.search.specs.Run.{Ending, Walked, walk_from, walk}
 use Rattle.search.specs.Rooms.{frame_width, stack_words, pending_words, frames_left, slot_width, list_rooms_refusal}
@@ -143,6 +145,19 @@ pub record Told (p : Panel) (b : SearchBudget) (from : ℕ) (fs xs out fs' xs' o
 -- 11 to 13
 abbrev pub list_panel_refusal : Panel → SearchBudget → ℕ → ℕ → Refusal
 list_panel_refusal p b frames slot = at (budget_refusal b) 0 (at (list_rooms_refusal p b frames slot) 0 no_refusal)
+
+-- budgets within their bounds, and rooms that are long enough for slots of v words
+pub record Fits (p : Panel) (b : SearchBudget) (frames words v : ℕ) : Type 0 where
+  pub width : v ≡ slot_width p b
+  pub some : 0 < b.max_frontier
+  pub small : b.max_frontier ≤ 1024
+  pub room : (b.max_frontier + 1) * frame_width ≤ frames
+  pub slot : v ≤ words
+
+-- 11 to 13, or the words of a slot
+pub record Checked (p : Panel) (b : SearchBudget) (frames words : ℕ) (r : Result ℕ BudgetRefusal) : Type 0 where
+  pub refused : record { number = refusal_of r; place = 0 } ≡ list_panel_refusal p b frames words
+  pub fits : IfOk r (Fits p b frames words)
 
 -- the answer that goes with a refusal, and what it leaves of the rooms
 pub record Replied (p : Panel) (b : SearchBudget) (from : ℕ) (refusal : Refusal) (before after : ListRooms) (r : ListReply) : Type 0 where

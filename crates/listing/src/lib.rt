@@ -1,7 +1,7 @@
 // The listing: the walk without scores; an assignment's words go to out, if their turn has come and they fit.
 #![tactic(auto)]
 
-ghost use Rattle.std.specs.Prelude.{◌≡◌, false, ◌++◌, ◌+◌, ◌*◌, ◌-◌, ◌≤◌, ◌<◌, length, take, drop};
+ghost use Rattle.std.specs.Prelude.{◌≡◌, false, ◌*◌, ◌-◌, ◌≤◌, ◌<◌, length, take};
 ghost use Rattle.image.specs.Inner.{Groups, Started};
 ghost use Rattle.image.specs.Panel.{panel_of};
 ghost use Rattle.panel.specs.Inner.{Accepted};
@@ -13,14 +13,15 @@ ghost use Rattle.search.specs.Counters.{status_of, status_number};
 ghost use Rattle.search.specs.Answers.{ListRooms, refused_list, list_answer, list_rooms};
 ghost use Rattle.landings.specs.Inner.{Known};
 ghost use Rattle.walks.specs.Inner.{assigned, to_go, Walking};
-ghost use Rattle.listing.specs.Inner.{Handed, seed_tally, FrameRoom, Onward, Entered, Ended, Sown, Told, Replied, list_panel_refusal};
+ghost use Rattle.listing.specs.Inner.{Handed, seed_tally, FrameRoom, Onward, Entered, Ended, Sown, Told, Checked, Replied, list_panel_refusal};
 
+use budget::BudgetRefusal;
 use evaluate::Segment;
 use search::{ListReply, SearchBudget, Stop, Tally};
 use walks::{Halt, Standing};
 
 // How many evaluations are still to be skipped, whether one did not fit, how many were written, and their words.
-#[derive(Clone, Copy)]
+#[derive(Clone, Copy, PartialEq, Eq, Debug)]
 pub struct Listing {
     pub skip: u64,
     pub full: bool,
@@ -37,24 +38,13 @@ pub struct Listed {
 }
 
 // Where seeding ended.
-#[derive(Clone, Copy)]
+#[derive(Clone, Copy, PartialEq, Eq, Debug)]
 pub struct Seeded {
     pub natives: usize,
     pub listing: Listing,
 }
 
 // ---- one evaluation
-
-fn copy_words(out: &mut [u64], at: usize, words: &[u64], n: usize)
-    requires { (at + n ≤ length out.old) × (n ≤ length words.now) }
-    ensures { out.new ≡ take at out.old ++ (take n words.now ++ drop (at + n) out.old) }
-{
-    let mut i = 0;
-    while i < n {
-        out[at + i] = words[i];
-        i += 1;
-    }
-}
 
 // An evaluation is handed over: the first n words of the slot.
 pub fn hand_over(out: &mut [u64], l: Listing, slot: &[u64], n: usize) -> Listing
@@ -70,17 +60,15 @@ pub fn hand_over(out: &mut [u64], l: Listing, slot: &[u64], n: usize) -> Listing
             ..l
         };
     }
-    let at = l.words;
-    let left = out.len() - at;
-    if n <= left {
-        copy_words(out, at, slot, n);
-        Listing {
-            written: l.written + 1,
-            words: at + n,
-            ..l
-        }
-    } else {
-        Listing { full: true, ..l }
+    if out.len() - l.words < n {
+        return Listing { full: true, ..l };
+    }
+    let words = l.words + n;
+    out[l.words..words].copy_from_slice(&slot[..n]);
+    Listing {
+        written: l.written + 1,
+        words,
+        ..l
     }
 }
 
@@ -142,11 +130,8 @@ fn run(
     loop {
         let pause = walks::go_on(image, h, starts, memo, b, frames, at);
         at = pause.at;
-        let halt = pause.halt;
-        match halt {
-            Halt::Stopped(stop) => {
-                return Listed { stop, at, listing };
-            }
+        match pause.halt {
+            Halt::Stopped(stop) => return Listed { stop, at, listing },
             Halt::Due(s) => {
                 listing = list_path(frames, slot, out, at, s, listing);
             }
@@ -167,22 +152,20 @@ fn seed(
     requires { Accepted image.now h × Onward v (walk (panel_of image.now) b) first slot.old out.old }
     ensures { Sown (panel_of image.now) h b v first slot.old out.old slot.new out.new result }
 {
-    let mut natives: usize = 0;
     let mut start: usize = 0;
     let mut listing = first;
-    while natives < h.families {
-        if natives as u64 >= b.max_work {
-            return Seeded { natives, listing };
-        }
-        if natives as u64 >= b.max_evaluations {
+    for natives in 0..h.families {
+        if natives as u64 >= b.max_work || natives as u64 >= b.max_evaluations {
             return Seeded { natives, listing };
         }
         let family = image::family_from(image, h, natives, start);
         listing = list_native(image, h, slot, out, family, listing);
         start = image::family_end(image, h, family);
-        natives += 1;
     }
-    Seeded { natives, listing }
+    Seeded {
+        natives: h.families,
+        listing,
+    }
 }
 
 // The counters after so many natives.
@@ -220,29 +203,22 @@ fn list_families(
     requires onward { Onward v (walk (panel_of image.now) b) first slot.old out.old }
     ensures { Ended b v (walk (panel_of image.now) b) first frames.old slot.old out.old frames.new slot.new out.new result }
 {
-    let s = seed(image, h, b, v, slot, out, first);
-    let n = s.natives;
-    let listing = s.listing;
-    let tally = seeded_tally(n);
+    let seeded = seed(image, h, b, v, slot, out, first);
+    let n = seeded.natives;
+    let listing = seeded.listing;
     let at = Standing {
-        tally,
+        tally: seeded_tally(n),
         depth: 0,
         start: 0,
         clear: true,
     };
     if n < h.families {
-        if n as u64 >= b.max_evaluations {
-            return Listed {
-                stop: Stop::Evaluation,
-                at,
-                listing,
-            };
-        }
-        return Listed {
-            stop: Stop::Work,
-            at,
-            listing,
+        let stop = if n as u64 >= b.max_evaluations {
+            Stop::Evaluation
+        } else {
+            Stop::Work
         };
+        return Listed { stop, at, listing };
     }
     if h.families == 0 {
         return Listed {
@@ -263,11 +239,10 @@ fn list_families(
 fn reply(e: Listed) -> ListReply
     ensures { result ≡ record { refusal = 0; place = 0; status = status_number (status_of e.stop false); written = e.listing.written; words = e.listing.words; evaluations = e.at.tally.evaluations } }
 {
-    let stop = e.stop;
     ListReply {
         refusal: 0,
         place: 0,
-        status: walks::status_number(stop, false),
+        status: walks::status_number(e.stop, false),
         written: e.listing.written,
         words: e.listing.words as u64,
         evaluations: e.at.tally.evaluations,
@@ -286,7 +261,7 @@ fn list_in(
     out: &mut [u64],
 ) -> ListReply
     requires accepted { Accepted image.now h × FrameRoom b frames.old }
-    requires v_value { (v ≡ slot_width (panel_of image.now) b) × (v ≤ length slot.old) }
+    requires width { (v ≡ slot_width (panel_of image.now) b) × (v ≤ length slot.old) }
     ensures { Told (panel_of image.now) b from frames.old slot.old out.old frames.new slot.new out.new result }
 {
     let starts = image::lane_starts(image, h);
@@ -298,8 +273,7 @@ fn list_in(
         words: 0,
     };
     let e = list_families(image, h, &starts, &mut memo, b, v, frames, slot, out, first);
-    let stop = e.stop;
-    walks::leave_frames(b, frames, stop, e.at.depth);
+    walks::leave_frames(b, frames, e.stop, e.at.depth);
     frames::clear_words(slot, 0, v);
     reply(e)
 }
@@ -317,6 +291,23 @@ fn refused(number: u64) -> ListReply
     }
 }
 
+// The words of a slot, where neither the budgets nor the rooms are refused.
+fn checked_width(
+    image: &[u8],
+    h: image::Header,
+    b: SearchBudget,
+    frames: usize,
+    slot: usize,
+) -> Result<usize, BudgetRefusal>
+    requires { Accepted image.now h }
+    ensures { Checked (panel_of image.now) b frames slot result }
+{
+    budget::budget_refusal(b)?;
+    let v = budget::slot_width(image, h, b);
+    budget::list_rooms_refusal(b, v, frames, slot)?;
+    Ok(v)
+}
+
 // 11 to 13, and the listing, over an accepted panel.
 fn list_panel(
     image: &[u8],
@@ -330,16 +321,10 @@ fn list_panel(
     requires { Accepted image.now h }
     ensures { Replied (panel_of image.now) b from (list_panel_refusal (panel_of image.now) b (length frames.entry.now) (length slot.old)) (record { frames = frames.entry.now; slot = slot.old; out = out.old }) (record { frames = frames.exit.now; slot = slot.new; out = out.new }) result }
 {
-    let budgets = budget::budget_refusal(b);
-    if 0 < budgets {
-        return refused(budgets);
+    match checked_width(image, h, b, frames.len(), slot.len()) {
+        Ok(v) => list_in(image, h, b, v, from, frames, slot, out),
+        Err(e) => refused(e.number()),
     }
-    let v = budget::slot_width(image, h, b);
-    let rooms = budget::list_rooms_refusal(b, v, frames.len(), slot.len());
-    if 0 < rooms {
-        return refused(rooms);
-    }
-    list_in(image, h, b, v, from, frames, slot, out)
 }
 
 // The listing: the walk's assignments with numbers from + 1 on, as many as fit into out.
@@ -352,10 +337,10 @@ pub fn list(
     out: &mut [u64],
 ) -> search::ListReply
     ensures value { result ≡ list_answer image.now b from (record { frames = frames.entry.now; slot = slot.old; out = out.old }) }
-    ensures fact { ◌≡◌ {A = ListRooms} (record { frames = frames.exit.now; slot = slot.new; out = out.new }) (list_rooms image.now b from (record { frames = frames.entry.now; slot = slot.old; out = out.old })) }
+    ensures rooms_after { ◌≡◌ {A = ListRooms} (record { frames = frames.exit.now; slot = slot.new; out = out.new }) (list_rooms image.now b from (record { frames = frames.entry.now; slot = slot.old; out = out.old })) }
 {
     match graph::check_panel(image) {
-        image::Opened::Good(h) => list_panel(image, h, b, from, frames, slot, out),
-        image::Opened::Refused(n) => refused(n),
+        Ok(h) => list_panel(image, h, b, from, frames, slot, out),
+        Err(e) => refused(e.number()),
     }
 }

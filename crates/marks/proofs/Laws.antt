@@ -1,12 +1,12 @@
 -- Laws of the marks of an assignment.
 use Prim.Native.Nat.{ℕ, ◌+◌, ◌*◌, ◌-◌, ◌≤◌, ◌<◌}
 use native.Mathlib.Omega.{arith}
-use mathlib.Core.Path.{◌≡◌, refl, sym, ap, ◌∙◌}
-use mathlib.Core.Bool.{Bool, true, false, not, ◌&&◌, ◌||◌}
-use mathlib.Core.List.{List, [], ◌∷◌}
+use mathlib.Core.Path.{◌≡◌, sym, ap, ◌∙◌}
+use mathlib.Core.Bool.{Bool, true, false, not, ◌||◌}
+use mathlib.Core.List.{List, []}
 use lib.Dec.{eqb}
 use lib.ListN.{length, drop, get_or, length-append, get_or-eq_default}
-use Rattle.ground.specs.Lists.{all, any}
+use Rattle.ground.specs.Lists.{any}
 use Rattle.ground.proofs.ListLaws.{each_length}
 use Rattle.image.specs.declared.Header.{Header}
 use Rattle.image.specs.declared.Entry.{Entry}
@@ -15,12 +15,12 @@ use Rattle.image.specs.Inner.{Framed}
 use Rattle.image.specs.Panel.{panel_of, lane_at, no_lane}
 use Rattle.image.proofs.Laws.{panel_entry, panel_lanes}
 use Rattle.evaluate.specs.declared.Segment.{Segment}
-use Rattle.evaluate.specs.Segments.{Route, flat}
+use Rattle.evaluate.specs.Segments.{flat}
 use Rattle.words.specs.Inner.{segment_of, segments_of, routes_of, assignment_of, Parsed}
 use Rattle.words.proofs.Reading.{segments_none, segments_next, routes_none, routes_next, parsed_route, parsed_next}
 use Rattle.words.proofs.Writing.{routes_length}
 use Rattle.search.specs.Counters.{varies}
-use Rattle.marks.specs.Inner.{lane_of, identity_of, on_value, marks_of}
+use Rattle.marks.specs.Inner.{lane_of, identity_of, Tells, marks_of}
 use Rattle.marks.specs.declared.Marks.{Marks}
 
 module _ (s : List ℕ) (h : Header) (lane : ℕ) (f : Framed s h) where
@@ -35,55 +35,42 @@ module _ (s : List ℕ) (h : Header) (lane : ℕ) (f : Framed s h) where
 
 -- ---- a route over two values
 
-any_not : {A : Type 0} (g : A → Bool) (l : List A) → any (λ t. not (g t)) l ≡ not (all g l)
-unfolding any all
-any_not g [] = refl
-any_not g (a ∷ l) = go (g a) (any_not g l)
-  where
-    go : (b : Bool) → any (λ t. not (g t)) l ≡ not (all g l) → (not b || any (λ t. not (g t)) l) ≡ not (b && all g l)
-    go true e = e
-    go false e = refl
+pub varies_none : (answers : Segment → ℕ → Type 0) (ws : List ℕ) (at left : ℕ) → left ≡ 0 → (f : Segment → ℕ) → Tells answers f → false ≡ varies f (segments_of left (drop at ws))
+varies_none answers ws at left z f told = rw (segments_none ws at left (omega arith))
 
-pub varies_none : (f : Segment → ℕ) (ws : List ℕ) (at left : ℕ) → left ≡ 0 → false ≡ varies f (segments_of left (drop at ws))
-varies_none f ws at left z = rw (segments_none ws at left (omega arith))
+pub varies_told : (answers : Segment → ℕ → Type 0) (ws : List ℕ) (at left first : ℕ) (s : Segment) (r : Bool) → (left ≡ 0 → ⊥) → s ≡ segment_of (drop at ws) → answers s first → (f : Segment → ℕ) → Tells answers f
+    → r ≡ any (λ t. not (eqb (f t) first)) (segments_of (left - 1) (drop (at + 4) ws)) → r ≡ varies f (segments_of left (drop at ws))
+varies_told answers ws at left first s r some e a f told q = q ∙ rw (segments_next ws at left (omega arith), ← e, told s first a)
 
-pub varies_told : (f : Segment → ℕ) (ws : List ℕ) (at left value : ℕ) (s : Segment) (r : Bool) → (left ≡ 0 → ⊥) → s ≡ segment_of (drop at ws) → value ≡ f s
-    → r ≡ all (on_value f value) (segments_of (left - 1) (drop (at + 4) ws)) → not r ≡ varies f (segments_of left (drop at ws))
-varies_told f ws at left value s r ne es ev er =
-    let pos : 0 < left = omega arith in
-    rw (segments_next ws at left pos, ← es, er, ev) (sym (any_not (λ t. eqb (f t) (f s)) (segments_of (left - 1) (drop (at + 4) ws))))
+-- ---- any route from a place on: i have been asked
 
-pub lanes_told : (ws : List ℕ) (at left : ℕ) (s : Segment) (r : Bool) → (left ≡ 0 → ⊥) → s ≡ segment_of (drop at ws)
-    → r ≡ all (on_value lane_of s.source) (segments_of (left - 1) (drop (at + 4) ws)) → not r ≡ varies lane_of (segments_of left (drop at ws))
-lanes_told ws at left s r ne es er = varies_told lane_of ws at left s.source s r ne es refl er
+pub record Mixing (answers : Segment → ℕ → Type 0) (ws : List ℕ) (at routes place i : ℕ) : Type 0 where
+  pub parsed : Parsed ws (routes - i) place
+  pub todo : (f : Segment → ℕ) → Tells answers f → any (varies f) (routes_of routes (drop at ws)) ≡ any (varies f) (routes_of (routes - i) (drop place ws))
 
--- ---- any route from a place on
+module _ {answers : Segment → ℕ → Type 0} {ws : List ℕ} {at routes place i : ℕ} (p : Mixing answers ws at routes place i) where
+  pub mixing_route : i < routes → place + 1 + 4 * get_or ws place 0 ≤ length ws
+  mixing_route h = parsed_route p.parsed (omega arith)
 
-pub record AnyRoutes (f : Route → Bool) (ws : List ℕ) (at routes place n : ℕ) : Type 0 where
-  pub parsed : Parsed ws n place
-  pub todo : any f (routes_of routes (drop at ws)) ≡ any f (routes_of n (drop place ws))
+  module _ (more : i < routes) (k : ℕ) (r : Bool) (ek : k ≡ get_or ws place 0) (er : (f : Segment → ℕ) → Tells answers f → r ≡ varies f (segments_of k (drop (place + 1) ws))) where
+    fewer : routes - i - 1 ≡ routes - (i + 1)
+    fewer = omega arith
 
-pub any_start : {f : Route → Bool} {ws : List ℕ} {at routes : ℕ} → Parsed ws routes at → AnyRoutes f ws at routes at routes
-any_start p = record { parsed = p; todo = refl }
-
-module _ {f : Route → Bool} {ws : List ℕ} {at routes place n : ℕ} (p : AnyRoutes f ws at routes place n) where
-  pub any_route : 0 < n → place + 1 + 4 * get_or ws place 0 ≤ length ws
-  any_route h = parsed_route p.parsed h
-
-  module _ (pos : 0 < n) (k : ℕ) (r : Bool) (ek : k ≡ get_or ws place 0) (er : r ≡ f (segments_of k (drop (place + 1) ws))) where
-    next : any f (routes_of routes (drop at ws)) ≡ (r || any f (routes_of (n - 1) (drop (place + 1 + 4 * k) ws)))
+    after : (f : Segment → ℕ) → Tells answers f → any (varies f) (routes_of routes (drop at ws)) ≡ (r || any (varies f) (routes_of (routes - (i + 1)) (drop (place + 1 + 4 * k) ws)))
     unfolding any
-    next = p.todo ∙ rw (routes_next ws place n k pos ek, er)
+    after f told = p.todo f told ∙ rw (routes_next ws place (routes - i) k (omega arith) ek, er f told, fewer)
 
-    pub any_again : r ≡ false → AnyRoutes f ws at routes (place + 1 + 4 * k) (n - 1)
-    any_again z = record { parsed = parsed_next p.parsed pos ek; todo = next ∙ rw z }
+    pub mixing_again : r ≡ false → Mixing answers ws at routes (place + (1 + 4 * k)) (i + 1)
+    mixing_again z =
+        let e : place + (1 + 4 * k) ≡ place + 1 + 4 * k = omega arith in
+        rw e (record { parsed = rw (← fewer) (parsed_next p.parsed (omega arith) ek); todo = λ f told. after f told ∙ rw z })
 
-    pub any_found : r ≡ true → true ≡ any f (routes_of routes (drop at ws))
-    any_found z = rw (next, z)
+    pub mixing_found : r ≡ true → (f : Segment → ℕ) → Tells answers f → true ≡ any (varies f) (routes_of routes (drop at ws))
+    mixing_found z f told = rw (after f told, z)
 
-  pub any_ends : n ≤ 0 → false ≡ any f (routes_of routes (drop at ws))
+  pub mixing_ends : routes ≤ i → (f : Segment → ℕ) → Tells answers f → false ≡ any (varies f) (routes_of routes (drop at ws))
   unfolding any
-  any_ends z = rw (p.todo, routes_none (drop place ws) n z)
+  mixing_ends z f told = rw (p.todo f told, routes_none (drop place ws) (routes - i) (omega arith))
 
 -- ---- the segments of all routes
 
@@ -91,28 +78,29 @@ segments_many : (ws : List ℕ) (n : ℕ) → length (segments_of n ws) ≡ n
 unfolding segments_of
 segments_many ws n = each_length segment_of 4 (segment_of []) n ws
 
-pub record Counting (ws : List ℕ) (at routes place n count : ℕ) : Type 0 where
-  pub parsed : Parsed ws n place
+-- i of them have been counted
+pub record Counting (ws : List ℕ) (at routes place i count : ℕ) : Type 0 where
+  pub parsed : Parsed ws (routes - i) place
   pub few : count ≤ place
-  pub todo : length (flat (routes_of routes (drop at ws))) ≡ count + length (flat (routes_of n (drop place ws)))
+  pub todo : length (flat (routes_of routes (drop at ws))) ≡ count + length (flat (routes_of (routes - i) (drop place ws)))
 
-pub counting_start : {ws : List ℕ} {at routes : ℕ} → Parsed ws routes at → Counting ws at routes at routes 0
-counting_start p = record { parsed = p; few = omega arith; todo = omega arith }
+module _ {ws : List ℕ} {at routes place i count : ℕ} (p : Counting ws at routes place i count) where
+  pub counting_route : i < routes → place + 1 + 4 * get_or ws place 0 ≤ length ws
+  counting_route h = parsed_route p.parsed (omega arith)
 
-module _ {ws : List ℕ} {at routes place n count : ℕ} (p : Counting ws at routes place n count) where
-  pub counting_route : 0 < n → place + 1 + 4 * get_or ws place 0 ≤ length ws
-  counting_route h = parsed_route p.parsed h
+  pub counting_next : (k : ℕ) → i < routes → k ≡ get_or ws place 0 → Counting ws at routes (place + (1 + 4 * k)) (i + 1) (count + k)
+  counting_next k more ek =
+      let n = routes - (i + 1) in
+      let fewer : routes - i - 1 ≡ n = omega arith in
+      let e : place + (1 + 4 * k) ≡ place + 1 + 4 * k = omega arith in
+      let here = routes_next ws place (routes - i) k (omega arith) ek in
+      let long : length (flat (routes_of (routes - i) (drop place ws))) ≡ k + length (flat (routes_of n (drop (place + 1 + 4 * k) ws))) =
+      rw (here, fewer) (length-append (segments_of k (drop (place + 1) ws)) (flat (routes_of n (drop (place + 1 + 4 * k) ws))) ∙ rw (segments_many (drop (place + 1) ws) k)) in
+      rw e (record { parsed = rw (← fewer) (parsed_next p.parsed (omega arith) ek); few = omega (arith, p.few); todo = omega (arith, p.todo, long) })
 
-  pub counting_next : (k : ℕ) → 0 < n → k ≡ get_or ws place 0 → Counting ws at routes (place + 1 + 4 * k) (n - 1) (count + k)
-  counting_next k pos ek =
-      let here = routes_next ws place n k pos ek in
-      let long : length (flat (routes_of n (drop place ws))) ≡ k + length (flat (routes_of (n - 1) (drop (place + 1 + 4 * k) ws))) =
-      rw here (length-append (segments_of k (drop (place + 1) ws)) (flat (routes_of (n - 1) (drop (place + 1 + 4 * k) ws))) ∙ rw (segments_many (drop (place + 1) ws) k)) in
-      record { parsed = parsed_next p.parsed pos ek; few = omega (arith, p.few); todo = omega (arith, p.todo, long) }
-
-  pub counting_ends : n ≤ 0 → count ≡ length (flat (routes_of routes (drop at ws)))
+  pub counting_ends : routes ≤ i → count ≡ length (flat (routes_of routes (drop at ws)))
   counting_ends z =
-      let none : length (flat (routes_of n (drop place ws))) ≡ 0 = rw (routes_none (drop place ws) n z) in
+      let none : length (flat (routes_of (routes - i) (drop place ws))) ≡ 0 = rw (routes_none (drop place ws) (routes - i) (omega arith)) in
       omega (arith, p.todo, none)
 
 pub marks_told : (s ws : List ℕ) (n w : ℕ) (a b : Bool) → a ≡ any (varies lane_of) (routes_of (get_or ws 1 0) (drop 2 ws)) → b ≡ any (varies (identity_of (panel_of s))) (routes_of (get_or ws 1 0) (drop 2 ws))

@@ -2,51 +2,18 @@
 use Prim.Native.Nat.{ℕ, zero, suc, ◌+◌, ◌-◌, ◌≤◌, ◌<◌}
 use native.Mathlib.Omega.{arith}
 use native.Mathlib.Nat.{eq-or-lt_of_le}
-use native.Mathlib.Numerals.{add-one}
 use mathlib.Core.Path.{◌≡◌, refl, sym, ap, ◌∙◌, subst}
 use mathlib.Core.Logic.{⊎_elim}
 use mathlib.Core.Bool.{Bool, true, false, not}
 use mathlib.Core.List.{List, [], ◌∷◌, ◌++◌}
 use lib.Dec.{eqb}
-use lib.ListN.{length, take, drop, get_or, set, length-drop, length-take, drop_of_length-le, length-set}
-use lib.Seq.{drop-cons, drop-drop, get_or-drop, get_or-set_same, get_or-set_other}
-use borrow.Author.Tests.{eq-eqb, ne_eqb, eqb-true, not-true}
+use lib.ListN.{length, take, drop, get_or, set, length-drop, length-take, length-set}
+use lib.Seq.{drop-drop, get_or-drop, get_or-set_same, get_or-set_other}
+use borrow.Author.Tests.{eq-eqb, eqb-true, not-true}
 use Rattle.ground.proofs.ListLaws.{both}
 use Rattle.ground.specs.Lists.{pick, all}
 use Rattle.names.specs.Names.{longer, cut, lines_of, ended, none}
 use Rattle.names.specs.Inner.{up_to, Placed, Span, Spans, Cuts}
-
--- ---- the first byte b
-
-pub record Looking (s : List ℕ) (at b i : ℕ) : Type 0 where
-  pub inside : i ≤ length s
-  pub same : i + length (up_to b (drop i s)) ≡ at + length (up_to b (drop at s))
-
-pub looking_start : (s : List ℕ) (at b : ℕ) → at ≤ length s → Looking s at b at
-looking_start s at b h = record { inside = h; same = refl }
-
-module _ {s : List ℕ} {at b i : ℕ} (l : Looking s at b i) where
-  pub looking_found : i < length s → get_or s i 0 ≡ b → Placed s at b i
-  unfolding up_to
-  looking_found h e =
-      let q : length (up_to b (drop i s)) ≡ 0 = rw (drop-cons s i 0 h, eq-eqb (get_or s i 0) b e) in
-      let t = l.same in
-      record { is = omega arith; inside = l.inside }
-
-  pub looking_next : i < length s → (get_or s i 0 ≡ b → ⊥) → Looking s at b (i + 1)
-  unfolding up_to
-  looking_next h ne =
-      let q : length (up_to b (drop i s)) ≡ suc (length (up_to b (drop (i + 1) s))) = rw (drop-cons s i 0 h, ne_eqb (get_or s i 0) b ne, add-one) in
-      let t = l.same in
-      record { inside = omega arith; same = omega arith }
-
-  pub looking_ends : length s ≤ i → Placed s at b i
-  unfolding up_to
-  looking_ends h =
-      let d : drop i s ≡ [] = drop_of_length-le s {i = i} h in
-      let q : length (up_to b (drop i s)) ≡ 0 = rw d in
-      let t = l.same in
-      record { is = omega arith; inside = l.inside }
 
 -- ---- the parts
 
@@ -118,10 +85,6 @@ pub record Filling (s : List ℕ) (b : ℕ) (starts ends : List ℕ) (at k : ℕ
   pub long : length ends ≡ length starts
   pub spans : Spans s (cut b s) starts ends k
 
-pub filling_start : (s : List ℕ) (b : ℕ) (starts ends : List ℕ) → length ends ≡ length starts → Filling s b starts ends 0 0
-filling_start s b starts ends h =
-    record { inside = omega arith; rest = refl; far = omega arith; long = h; spans = λ j lt. let z : ⊥ = omega arith in absurd z }
-
 module _ {s : List ℕ} {b : ℕ} {starts ends : List ℕ} {at k : ℕ} (f : Filling s b starts ends at k) where
   before_end : k < length (cut b s)
   before_end =
@@ -129,7 +92,7 @@ module _ {s : List ℕ} {b : ℕ} {starts ends : List ℕ} {at k : ℕ} (f : Fil
       let l = length-drop k (cut b s) in
       omega arith
 
-  module _ {e : ℕ} (p : Placed s at b e) (n room : ℕ) (en : n ≡ length s) (er : room ≡ length starts) (less : k < room) where
+  module _ {e room : ℕ} (p : Placed s at b e) (er : length starts ≡ room) (less : k < room) where
     lt : k < length starts
     lt = omega arith
 
@@ -174,9 +137,8 @@ module _ {s : List ℕ} {b : ℕ} {starts ends : List ℕ} {at k : ℕ} (f : Fil
     drop_less : drop (k + 1) (cut b s) ≡ drop 1 (drop k (cut b s))
     drop_less = sym (drop-drop 1 k (cut b s))
 
-    pub filling_next : e < n → Filling s b (set starts k at) (set ends k e) (e + 1) (k + 1)
-    filling_next g =
-        let h : e < length s = omega arith in
+    pub filling_next : e < length s → Filling s b (set starts k at) (set ends k e) (e + 1) (k + 1)
+    filling_next h =
         let l4 = lt in
         let q : drop 1 (cut b (drop at s)) ≡ cut b (drop (e + 1) s) = ap (λ (l : List (List ℕ)). drop 1 l) (here_first p f.inside h) in
         let l1 = length-set starts k at in
@@ -190,9 +152,8 @@ module _ {s : List ℕ} {b : ℕ} {starts ends : List ℕ} {at k : ℕ} (f : Fil
           spans = spans_more;
         }
 
-    pub filling_last : (first : ℕ) → length starts ≡ first → n ≤ e → Cuts s b first (set starts k at) (set ends k e) (k + 1)
-    filling_last first ef g =
-        let h : length s ≤ e = omega arith in
+    pub filling_last : length s ≤ e → Cuts s b room (set starts k at) (set ends k e) (k + 1)
+    filling_last h =
         let l4 = lt in
         let q : drop 1 (cut b (drop at s)) ≡ [] = ap (λ (l : List (List ℕ)). drop 1 l) (here_last p f.inside h) in
         let r : drop (k + 1) (cut b s) ≡ [] = drop_less ∙ ap (λ (l : List (List ℕ)). drop 1 l) (sym f.rest) ∙ q in
@@ -202,8 +163,8 @@ module _ {s : List ℕ} {b : ℕ} {starts ends : List ℕ} {at k : ℕ} (f : Fil
         let l1 = length-set starts k at in
         record { count = omega arith; spans = spans_more }
 
-  pub filling_ends : (room first : ℕ) → room ≡ length starts → length starts ≡ first → room ≤ k → Cuts s b first starts ends k
-  filling_ends room first er ef h = let m = before_end in let g = f.far in record { count = omega arith; spans = f.spans }
+  pub filling_ends : {room : ℕ} → length starts ≡ room → room ≤ k → Cuts s b room starts ends (length starts)
+  filling_ends {room} er h = let m = before_end in let g = f.far in record { count = omega arith; spans = λ j l. f.spans j (omega arith) }
 
 -- ---- texts put together
 

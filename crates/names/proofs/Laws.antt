@@ -13,10 +13,14 @@ use lib.ListN.{length, take, drop, get_or, set, length-drop, length-take, drop_o
 use lib.Seq.{drop-cons, get_or-set_same, get_or-set_other, get_or-take, length-take-le}
 use borrow.Author.Tests.{eq-eqb, ne_eqb, eqb-true, eqb-false, not-true}
 use Rattle.ground.specs.Lists.{pick, all, any, distinct}
-use Rattle.ground.proofs.ListLaws.{both, AllFrom, all_again, all_fails, all_ends, all_at}
-use Rattle.names.specs.Names.{same, lane_of, none, cut, lines_of, ended, name_ok, table_ok}
+use Rattle.ground.proofs.ListLaws.{both, all_at}
+use Rattle.std.proofs.Common.{Option, Some, None, unwrap_or}
+use Rattle.std.specs.Cmp.Lexicographic.{pointwise}
+use Rattle.std.specs.List.{list_all, range_with_len}
+use Rattle.names.proofs.Bytes.{same_is, all_over}
+use Rattle.names.specs.Names.{same, name_at, lane_of, none, cut, lines_of, ended, name_ok, table_ok}
 use Rattle.names.proofs.Cutting.{cut_some}
-use Rattle.names.specs.Inner.{Widened, hash_from, hash_of, last_of, Chained, Found, Span, Spans, Indexed, Tabled, Fresh, Linked, Cuts}
+use Rattle.names.specs.Inner.{hash_from, hash_of, last_of, Chained, Finds, Span, Spans, Indexed, Table, Fresh, Linked, Cuts}
 
 -- ---- sameness
 
@@ -37,59 +41,15 @@ same_self (x ∷ s) = rw (eq-eqb x x refl) (same_self s)
 pub equal_same : (s t : List ℕ) → s ≡ t → same s t ≡ true
 equal_same s t e = subst (λ (u : List ℕ). same s u ≡ true) e (same_self s)
 
-pub same_unlike : (s t : List ℕ) → (length s ≡ length t → ⊥) → false ≡ same s t
-unfolding same
-same_unlike [] [] n = absurd (n refl)
-same_unlike [] (y ∷ t) n = refl
-same_unlike (x ∷ s) [] n = refl
-same_unlike (x ∷ s) (y ∷ t) n = go (eqb x y) (same_unlike s t (λ e. n (ap suc e)))
-  where
-    go : (b : Bool) → false ≡ same s t → false ≡ (b && same s t)
-    go true h = h
-    go false h = refl
-
-pub record Comparing (s t : List ℕ) (n i : ℕ) : Type 0 where
-  pub left : n ≡ length s
-  pub right : n ≡ length t
-  pub inside : i ≤ n
-  pub todo : same s t ≡ same (drop i s) (drop i t)
-
-pub comparing_start : (s t : List ℕ) (n : ℕ) → n ≡ length s → n ≡ length t → Comparing s t n 0
-comparing_start s t n e f = record { left = e; right = f; inside = omega arith; todo = refl }
-
-module _ {s t : List ℕ} {n i : ℕ} (c : Comparing s t n i) where
-  step : i < n → same s t ≡ (eqb (get_or s i 0) (get_or t i 0) && same (drop (i + 1) s) (drop (i + 1) t))
-  unfolding same
-  step lt =
-      let a = c.left in
-      let b = c.right in
-      c.todo ∙ rw (drop-cons s i 0 (omega arith), drop-cons t i 0 (omega arith), add-one)
-
-  pub comparing_next : i < n → get_or s i 0 ≡ get_or t i 0 → Comparing s t n (i + 1)
-  comparing_next lt e = record { left = c.left; right = c.right; inside = omega arith; todo = step lt ∙ rw (eq-eqb (get_or s i 0) (get_or t i 0) e) }
-
-  pub comparing_differs : i < n → (get_or s i 0 ≡ get_or t i 0 → ⊥) → false ≡ same s t
-  comparing_differs lt ne = sym (step lt ∙ rw (ne_eqb (get_or s i 0) (get_or t i 0) ne))
-
-  pub comparing_ends : n ≤ i → true ≡ same s t
-  unfolding same
-  comparing_ends le =
-      let a = c.left in
-      let b = c.right in
-      sym (c.todo ∙ rw (drop_of_length-le s {i = i} (omega arith), drop_of_length-le t {i = i} (omega arith)))
-
 -- ---- the hash
 
 pub record Hashing (s : List ℕ) (h i : ℕ) : Type 0 where
   pub small : h < 1048573
   pub todo : hash_from h (drop i s) ≡ hash_from 0 s
 
-pub hashing_start : (s : List ℕ) → Hashing s 0 0
-hashing_start s = record { small = omega arith; todo = refl }
-
-pub hashing_next : {s : List ℕ} {h i : ℕ} (x : ℕ) → Hashing s h i → i < length s → Widened (get_or s i 0) x → Hashing s ((h * 131 + x) % 1048573) (i + 1)
+pub hashing_next : {s : List ℕ} {h i x : ℕ} → Hashing s h i → i < length s → x ≡ get_or s i 0 → Hashing s ((h * 131 + x) % 1048573) (i + 1)
 unfolding hash_from
-hashing_next {s} {h} {i} x c lt w = record { small = omega arith; todo = rw (w.same, add-one) (ap (λ (l : List ℕ). hash_from h l) (sym (drop-cons s i 0 lt))) ∙ c.todo }
+hashing_next {s} {h} {i} {x} c lt e = record { small = omega arith; todo = rw (e, add-one) (ap (λ (l : List ℕ). hash_from h l) (sym (drop-cons s i 0 lt))) ∙ c.todo }
 
 pub hashing_ends : {s : List ℕ} {h i : ℕ} → Hashing s h i → length s ≤ i → h % 4096 ≡ hash_of s
 unfolding hash_from
@@ -162,8 +122,8 @@ module _ {ns : List (List ℕ)} {heads links : List ℕ} {n : ℕ} (ch : Chained
         chain = chain_at ns c n (get_or heads c 0) e;
       }
 
-  pub seeking_next : (p : ℕ) → Seeking ns n key c p → 0 < p → (r : Bool) → r ≡ same (get_or ns (p - 1) []) key → r ≡ false → Seeking ns n key c (get_or links (p - 1) 0)
-  seeking_next p s pos r er rf =
+  pub seeking_next : (p : ℕ) → Seeking ns n key c p → 0 < p → same (get_or ns (p - 1) []) key ≡ false → Seeking ns n key c (get_or links (p - 1) 0)
+  seeking_next p s pos off =
       let w = s.few in
       let h : hash_of (get_or ns (p - 1) []) ≡ c = s.chain pos in
       let e : get_or links (p - 1) 0 ≡ last_of ns c (p - 1) = ch.before (p - 1) (omega arith) ∙ rw h in
@@ -183,7 +143,7 @@ module _ {ns : List (List ℕ)} {heads links : List ℕ} {n : ℕ} (ch : Chained
       go : get_or links (p - 1) 0 ≡ last_of ns c (p - 1) → (j : ℕ) → get_or links (p - 1) 0 ≤ j → j < n → (p ≤ j) ⊎ (j < p) → same (get_or ns j []) key ≡ false
       go e j le l (inl q) = s.passed j q l
       go e j le l (inr q) = ⊎_elim
-          (λ z. rw z (sym er ∙ rf))
+          (λ z. rw z off)
           (λ k. unlike (get_or ns j []) key (λ x. last_out ns c (p - 1) j (rw (← e) le) k (x ∙ sym ec)))
           (eq-or-lt_of_le (under j p q))
         where
@@ -197,52 +157,30 @@ seeking_less {ns} {heads} {links} {n} {key} {c} {p} ch s pos =
     let f = last_few ns (hash_of (get_or ns (p - 1) [])) (p - 1) in
     omega arith
 
-pub seeking_found : {ns : List (List ℕ)} {n : ℕ} {key : List ℕ} {c p : ℕ} → Seeking ns n key c p → 0 < p → (r : Bool) → r ≡ same (get_or ns (p - 1) []) key → r ≡ true → Found ns n key (p - 1)
-seeking_found {ns} {n} {key} {c} {p} s pos r er rt =
+pub seeking_found : {ns : List (List ℕ)} {n : ℕ} {key : List ℕ} {c p : ℕ} → Seeking ns n key c p → 0 < p → same (get_or ns (p - 1) []) key ≡ true → Finds ns n key (Some (p - 1))
+seeking_found {ns} {n} {key} {c} {p} s pos e =
     let w = s.few in
-    record { few = omega arith; here = λ l. sym er ∙ rt; absent = λ e j l. let z : ⊥ = omega arith in absurd z }
-
-pub seeking_ends : {ns : List (List ℕ)} {n : ℕ} {key : List ℕ} {c p : ℕ} → Seeking ns n key c p → p ≤ 0 → Found ns n key n
-seeking_ends s z = record { few = omega arith; here = λ l. let y : ⊥ = omega arith in absurd y; absent = λ e j l. s.passed j (omega arith) l }
+    (omega arith, record { few = omega arith; here = λ l. e; absent = λ q j l. let z : ⊥ = omega arith in absurd z })
 
 -- ---- the index
 
 module _ {s starts ends heads links : List ℕ} {n : ℕ} {key : List ℕ} {c p : ℕ} (ix : Indexed s starts ends heads links n) (k : Seeking (cut 10 s) n key c p) (pos : 0 < p) where
-  pub find_few : p - 1 < 4098
-  find_few = let f = ix.few in let w = k.few in omega arith
-
-  pub find_near : p - 1 < 4096
-  find_near = let f = ix.few in let w = k.few in omega arith
-
   pub find_span : Span s starts ends (p - 1) (get_or (cut 10 s) (p - 1) [])
   find_span = let w = k.few in ix.spans (p - 1) (omega arith)
 
-pub name-at : {s starts ends : List ℕ} {j : ℕ} {p : List ℕ} (key : List ℕ) (r : Bool) → Span s starts ends j p
-    → r ≡ same (take (get_or ends j 0 - get_or starts j 0) (drop (get_or starts j 0) s)) key → r ≡ same p key
-name-at key r sp e = e ∙ rw sp.is
+-- what stands between the places of a part
+module _ {s starts ends x : List ℕ} {j : ℕ} {p : List ℕ} (e : x ≡ take (get_or ends j 0 - get_or starts j 0) (drop (get_or starts j 0) s)) (sp : Span s starts ends j p) where
+  pub part_is : x ≡ p
+  part_is = e ∙ sp.is
 
-pub name_of : {s starts ends : List ℕ} {j : ℕ} {p : List ℕ} (r : Bool) → Span s starts ends j p
-    → r ≡ name_ok (take (get_or ends j 0 - get_or starts j 0) (drop (get_or starts j 0) s)) → r ≡ name_ok p
-name_of r sp e = e ∙ rw sp.is
-
-pub fresh_told : {s starts ends : List ℕ} {ns : List (List ℕ)} {i : ℕ} (k : ℕ) → Span s starts ends i (get_or ns i [])
-    → Found ns i (take (get_or ends i 0 - get_or starts i 0) (drop (get_or starts i 0) s)) k → Fresh ns i (eqb k i)
-fresh_told {s} {starts} {ends} {ns} {i} k sp f =
-    record {
-      new = λ e j l. rw (← sp.is) (f.absent (eqb-true k i e) j l);
-      old = λ e. let w = f.few in let ne = eqb-false k i e in
-          let lt : k < i = less k i w ne in
-          record { earlier = k; below = lt; is = rw (← sp.is) (f.here lt) };
-    }
-  where
-    less : (k i : ℕ) → k ≤ i → (k ≡ i → ⊥) → k < i
-    less k i w ne = ⊎_elim (λ e. absurd (ne e)) (λ l. l) (eq-or-lt_of_le w)
+  pub same_part : (key : List ℕ) {r t : Bool} → r ≡ pointwise eqb x key → r ≡ t → same p key ≡ t
+  same_part key q w = rw (← part_is, ← same_is x key) (sym q ∙ w)
 
 -- one more name in its chain
-pub chain_more : {s starts ends heads links : List ℕ} {ns : List (List ℕ)} {i : ℕ} (c : ℕ) → Chained ns heads links i → Span s starts ends i (get_or ns i [])
-    → i < 4096 → c ≡ hash_of (take (get_or ends i 0 - get_or starts i 0) (drop (get_or starts i 0) s)) → c < 4096 → Chained ns (set heads c (i + 1)) (set links i (get_or heads c 0)) (i + 1)
+pub chain_more : {heads links key : List ℕ} {ns : List (List ℕ)} {i : ℕ} (c : ℕ) → Chained ns heads links i → key ≡ get_or ns i []
+    → i < 4096 → c ≡ hash_of key → c < 4096 → Chained ns (set heads c (i + 1)) (set links i (get_or heads c 0)) (i + 1)
 unfolding last_of
-chain_more {s} {starts} {ends} {heads} {links} {ns} {i} c ch sp lt ec small =
+chain_more {heads} {links} {key} {ns} {i} c ch ek lt ec small =
     let one : i + 1 ≡ suc i = omega arith in
     rw one (record { chains = length-set heads c (suc i) ∙ lh; names = length-set links i (get_or heads c 0) ∙ ll; last = last; before = before })
   where
@@ -253,7 +191,7 @@ chain_more {s} {starts} {ends} {heads} {links} {ns} {i} c ch sp lt ec small =
     ll = ch.names
 
     hash : hash_of (get_or ns i []) ≡ c
-    hash = rw (← sp.is) (sym ec)
+    hash = rw (← ek) (sym ec)
 
     last : (d : ℕ) → d < 4096 → get_or (set heads c (suc i)) d 0 ≡ last_of ns d (suc i)
     last d h = go (eqb (hash_of (get_or ns i [])) d) refl
@@ -316,19 +254,6 @@ pub record Linking (ns : List (List ℕ)) (heads links : List ℕ) (n i : ℕ) :
   pub chained : Chained ns heads links i
   pub apart : (j k : ℕ) → j < k → k < i → same (get_or ns j []) (get_or ns k []) ≡ false
 
-pub linking_start : {ns : List (List ℕ)} {heads links : List ℕ} (n : ℕ) → Chained ns heads links 0 → Linking ns heads links n 0
-linking_start n ch = record { few = omega arith; chained = ch; apart = λ j k p q. let z : ⊥ = omega arith in absurd z }
-
-pub linking_next : {ns : List (List ℕ)} {heads links heads' links' : List ℕ} {n i : ℕ} (r : Bool) → Linking ns heads links n i → i < n → Fresh ns i r → r ≡ true → Chained ns heads' links' (i + 1) → Linking ns heads' links' n (i + 1)
-linking_next {ns} {heads} {links} {heads'} {links'} {n} {i} r k lt f e ch =
-    record { few = omega arith; chained = ch; apart = apart }
-  where
-    apart : (j m : ℕ) → j < m → m < i + 1 → same (get_or ns j []) (get_or ns m []) ≡ false
-    apart j m p q = ⊎_elim (λ z. rw z (f.new e j (rw (← z) p))) (λ l. k.apart j m p l) (eq-or-lt_of_le le)
-      where
-        le : m ≤ i
-        le = omega arith
-
 pub linking_fails : {ns : List (List ℕ)} {heads links : List ℕ} {n i : ℕ} (r : Bool) → Linking ns heads links n i → i < n → n ≤ length ns → Fresh ns i r → r ≡ false → Linked ns heads links n false
 linking_fails {ns} {heads} {links} {n} {i} r k lt long f e =
     let t = f.old e in
@@ -349,25 +274,22 @@ linking_ends {ns} {heads} {links} {n} {i} k le long =
 
 -- ---- the table
 
--- the loop over the first n of a list's elements
-pub all_again_take : {A : Type 0} (d : A) (f : A → Bool) (l : List A) (n i : ℕ) (r : Bool) → AllFrom f (take n l) n i → i < n → n ≤ length l → r ≡ f (get_or l i d) → r ≡ true → AllFrom f (take n l) n (i + 1)
-all_again_take d f l n i r so lt long e t = all_again d f (take n l) n i r so lt (e ∙ ap f (sym (get_or-take n l i d lt))) (length-take-le n l long) t
+-- the first lines are asked by their places
+pub names_all : {s starts ends : List ℕ} {n : ℕ} {r : Bool} → Spans s (cut 10 s) starts ends n → n ≤ length (cut 10 s)
+    → r ≡ list_all (λ j. name_ok (take (get_or ends j 0 - get_or starts j 0) (drop (get_or starts j 0) s))) (range_with_len 0 n) → r ≡ all name_ok (take n (cut 10 s))
+names_all {s} {starts} {ends} {n} sp long e =
+    e ∙ ap (λ m. list_all (λ j. name_ok (take (get_or ends j 0 - get_or starts j 0) (drop (get_or starts j 0) s))) (range_with_len 0 m)) (sym few)
+    ∙ all_over [] name_ok (λ j. take (get_or ends j 0 - get_or starts j 0) (drop (get_or starts j 0) s)) (take n (cut 10 s)) 0 same
+  where
+    few : length (take n (cut 10 s)) ≡ n
+    few = length-take-le n (cut 10 s) long
 
-pub all_fails_take : {A : Type 0} (d : A) (f : A → Bool) (l : List A) (n i : ℕ) (r : Bool) → AllFrom f (take n l) n i → i < n → n ≤ length l → r ≡ f (get_or l i d) → r ≡ false → false ≡ all f (take n l)
-all_fails_take d f l n i r so lt long e t = all_fails d f (take n l) n i r so lt (e ∙ ap f (sym (get_or-take n l i d lt))) (length-take-le n l long) t
-
-pub all_ends_take : {A : Type 0} (f : A → Bool) (l : List A) (n i : ℕ) → AllFrom f (take n l) n i → n ≤ i → n ≤ length l → true ≡ all f (take n l)
-all_ends_take f l n i so le long = all_ends f (take n l) n i so le (length-take-le n l long)
-
-module _ {s starts ends : List ℕ} {n i : ℕ} (sp : Spans s (cut 10 s) starts ends n) (lt : i < n) where
-  pub one_span : Span s starts ends i (get_or (cut 10 s) i [])
-  one_span = sp i lt
-
-  pub linking_index : {heads links : List ℕ} → n ≤ 4096 → Linking (cut 10 s) heads links n i → Indexed s starts ends heads links i
-  linking_index few k = record { few = omega arith; spans = λ j l. sp j (omega arith); chained = k.chained }
-
-pub linking_chained : {ns : List (List ℕ)} {heads links : List ℕ} {n i : ℕ} → Linking ns heads links n i → Chained ns heads links i
-linking_chained k = k.chained
+    same : (k : ℕ) → k < length (take n (cut 10 s)) → take (get_or ends (0 + k) 0 - get_or starts (0 + k) 0) (drop (get_or starts (0 + k) 0) s) ≡ get_or (take n (cut 10 s)) k []
+    same k h =
+        let f = few in
+        let lt : k < n = omega arith in
+        let z : 0 + k ≡ k = omega arith in
+        rw z ((sp k lt).is ∙ sym (get_or-take n (cut 10 s) k [] lt))
 
 -- ---- the whole table
 
@@ -387,9 +309,9 @@ lines_length s =
     omega arith
 
 module _ {s starts ends : List ℕ} {lanes room : ℕ} (count : ℕ) (cs : Cuts s 10 room starts ends count) (long : room ≡ 4098) (few : lanes ≤ 4096) where
-  pub table_count : (heads links : List ℕ) → (count ≡ lanes + 1 → ⊥) → Tabled s starts ends heads links lanes false
+  pub table_count : (count ≡ lanes + 1 → ⊥) → table_ok lanes s ≡ false
   unfolding table_ok
-  table_count heads links ne = record { told = sym (rw (off) (none_of (ended s))); index = λ z. absurd (true≢false (sym z)) }
+  table_count ne = rw off (none_of (ended s))
     where
       off : eqb (length (lines_of s)) lanes ≡ false
       off =
@@ -404,9 +326,6 @@ module _ {s starts ends : List ℕ} {lanes room : ℕ} (count : ℕ) (cs : Cuts 
   module _ (ec : count ≡ lanes + 1) where
     parts : length (cut 10 s) ≡ suc lanes
     parts = let c = cs.count in omega arith
-
-    pub table_long : lanes ≤ length (cut 10 s)
-    table_long = let p = parts in omega arith
 
     pub table_spans : Spans s (cut 10 s) starts ends lanes
     table_spans j lt = cs.spans j (omega arith)
@@ -426,9 +345,8 @@ module _ {s starts ends : List ℕ} {lanes room : ℕ} (count : ℕ) (cs : Cuts 
         go true b c = refl
         go false b c = refl
 
-    pub table_open : (heads links : List ℕ) → (get_or starts lanes 0 ≡ get_or ends lanes 0 → ⊥) → Tabled s starts ends heads links lanes false
-    table_open heads links ne =
-        record { told = sym (opened ∙ rw (some (get_or (cut 10 s) lanes []) last.is)); index = λ z. absurd (true≢false (sym z)) }
+    pub table_open : (get_or starts lanes 0 ≡ get_or ends lanes 0 → ⊥) → table_ok lanes s ≡ false
+    table_open ne = opened ∙ rw (some (get_or (cut 10 s) lanes []) last.is)
       where
         o : get_or starts lanes 0 ≤ get_or ends lanes 0
         o = last.order
@@ -460,15 +378,17 @@ module _ {s starts ends : List ℕ} {lanes room : ℕ} (count : ℕ) (cs : Cuts 
               let l3 : length (take (get_or ends lanes 0 - get_or starts lanes 0) (drop (get_or starts lanes 0) s)) ≡ suc (length p) = ap length e in
               let z : ⊥ = omega arith in absurd z
 
-      pub table_names : (heads links : List ℕ) (r : Bool) → r ≡ all name_ok (take lanes (cut 10 s)) → r ≡ false → Tabled s starts ends heads links lanes false
-      table_names heads links r e f = record { told = sym (opened ∙ rw (empty, ← e, f)); index = λ z. absurd (true≢false (sym z)) }
+      pub table_names : {r : Bool} → r ≡ all name_ok (take lanes (cut 10 s)) → r ≡ false → table_ok lanes s ≡ false
+      table_names e f = opened ∙ rw (empty, ← e, f)
 
-      pub table_chained : {heads links : List ℕ} (r b : Bool) → r ≡ all name_ok (take lanes (cut 10 s)) → r ≡ true → Linked (cut 10 s) heads links lanes b → Tabled s starts ends heads links lanes b
-      table_chained r b e t k =
-          record {
-            told = k.told ∙ sym (opened ∙ rw (empty, ← e, t));
-            index = λ z. record { few = few; spans = table_spans; chained = k.chained z };
-          }
+      pub table_twice : {heads links : List ℕ} {r b : Bool} → r ≡ all name_ok (take lanes (cut 10 s)) → r ≡ true → Linked (cut 10 s) heads links lanes b → b ≡ false → table_ok lanes s ≡ false
+      table_twice e t k f = opened ∙ rw (empty, ← e, t) (sym k.told ∙ f)
+
+      pub table_good : {heads links : List ℕ} {r b : Bool} → r ≡ all name_ok (take lanes (cut 10 s)) → r ≡ true → Linked (cut 10 s) heads links lanes b → b ≡ true → table_ok lanes s ≡ true
+      table_good e t k f = opened ∙ rw (empty, ← e, t) (sym k.told ∙ f)
+
+      pub table_read : {heads links : List ℕ} {r b : Bool} → r ≡ all name_ok (take lanes (cut 10 s)) → r ≡ true → Linked (cut 10 s) heads links lanes b → b ≡ true → Table s starts ends heads links lanes
+      table_read e t k f = record { index = record { few = few; spans = table_spans; chained = k.chained f }; good = table_good e t k f }
 
 -- ---- the lane of a name
 
@@ -511,20 +431,24 @@ good_table s lanes e =
 pub line_at : {s : List ℕ} {lanes : ℕ} → Good s lanes → (j : ℕ) → j < lanes → get_or (lines_of s) j [] ≡ get_or (cut 10 s) j []
 line_at {s} {lanes} g j lt = rw g.lines (get_or-take lanes (cut 10 s) j [] lt)
 
-pub found_lane : {s key : List ℕ} {lanes : ℕ} (r : ℕ) → Good s lanes → Found (cut 10 s) lanes key r → r ≡ lane_of (lines_of s) key
-found_lane {s} {key} {lanes} r g f = ⊎_elim none_has has (eq-or-lt_of_le f.few)
+-- the name of a lane
+pub named : {s starts ends heads links x : List ℕ} {lanes lane : ℕ} → Table s starts ends heads links lanes → lane < lanes
+    → x ≡ take (get_or ends lane 0 - get_or starts lane 0) (drop (get_or starts lane 0) s) → x ≡ name_at (lines_of s) lane
+named {s} {lanes = lanes} {lane = lane} t lt e = e ∙ (t.index.spans lane lt).is ∙ sym (line_at (good_table s lanes t.good) lane lt)
+
+-- the lane that is found, or the count of lanes
+pub found_lane : {s : List ℕ} {lanes : ℕ} (key : List ℕ) (o : Option ℕ) → Good s lanes → Finds (cut 10 s) lanes key o → unwrap_or o lanes ≡ lane_of (lines_of s) key
+found_lane {s} {lanes} key o g f = go o f
   where
     count : length (lines_of s) ≡ lanes
     count = g.count
 
-    none_has : r ≡ lanes → r ≡ lane_of (lines_of s) key
-    none_has e = sym (lane_none (lines_of s) key (λ j l. rw (line_at g j (less l)) (f.absent e j (less l))) ∙ count ∙ sym e)
-      where
-        less : {j : ℕ} → j < length (lines_of s) → j < lanes
-        less l = let c = count in omega arith
+    less : {j : ℕ} → j < length (lines_of s) → j < lanes
+    less l = let c = count in omega arith
 
-    has : r < lanes → r ≡ lane_of (lines_of s) key
-    has l = let c = count in sym (lane_first (lines_of s) key r (omega arith) (rw (line_at g r l) (f.here l)) g.apart)
+    go : (o : Option ℕ) → Finds (cut 10 s) lanes key o → unwrap_or o lanes ≡ lane_of (lines_of s) key
+    go None f = sym (lane_none (lines_of s) key (λ j l. rw (line_at g j (less l)) (f.absent refl j (less l))) ∙ count)
+    go (Some r) f = let c = count in sym (lane_first (lines_of s) key r (let l = f.0 in omega arith) (rw (line_at g r f.0) (f.1.here f.0)) g.apart)
 
 -- a lane's own name leads to it
 pub own_lane : {s : List ℕ} {lanes : ℕ} → Good s lanes → (lane : ℕ) → lane < lanes → lane_of (lines_of s) (get_or (lines_of s) lane []) ≡ lane

@@ -1,11 +1,7 @@
 -- What the name table's inner functions promise each other; nothing here is part of a public promise.
-use Rattle.std.specs.Prelude.{ℕ, zero, suc, ◌+◌, ◌-◌, ◌*◌, ◌%◌, ◌≤◌, ◌<◌, min, ◌≡◌, Bool, true, false, List, [], ◌∷◌, eqb, length, take, drop, get_or}
+use Rattle.std.specs.Prelude.{Option, Some, None, ℕ, zero, suc, ◌+◌, ◌-◌, ◌*◌, ◌%◌, ◌≤◌, ◌<◌, min, ◌≡◌, Bool, true, false, List, [], ◌∷◌, eqb, length, take, drop, get_or}
 use Rattle.ground.specs.Lists.{pick, distinct}
 use Rattle.names.specs.Names.{same, cut, table_ok}
-
-pub record Widened (x r : ℕ) : Type 0 where
-  pub same : r ≡ x
-  pub small : r < 256
 
 -- the bytes before the first byte b
 unfoldable pub up_to : ℕ → List ℕ → List ℕ
@@ -59,16 +55,16 @@ pub record Found (ns : List (List ℕ)) (n : ℕ) (key : List ℕ) (r : ℕ) : T
   pub here : r < n → same (get_or ns r []) key ≡ true
   pub absent : r ≡ n → (j : ℕ) → j < n → same (get_or ns j []) key ≡ false
 
+-- the same of an answer that is None where none of them is the key
+abbrev pub Finds : List (List ℕ) → ℕ → List ℕ → Option ℕ → Type 0
+Finds ns n key None = Found ns n key n
+Finds ns n key (Some r) = (r < n) × Found ns n key r
+
 -- the first n names of a table, with their places and chains
 pub record Indexed (s starts ends heads links : List ℕ) (n : ℕ) : Type 0 where
   pub few : n ≤ 4096
   pub spans : Spans s (cut 10 s) starts ends n
   pub chained : Chained (cut 10 s) heads links n
-
--- the table has been read
-pub record Tabled (s starts ends heads links : List ℕ) (lanes : ℕ) (r : Bool) : Type 0 where
-  pub told : r ≡ table_ok lanes s
-  pub index : r ≡ true → Indexed s starts ends heads links lanes
 
 -- a table that has been read and is good
 pub record Table (names starts ends heads links : List ℕ) (lanes : ℕ) : Type 0 where

@@ -2,56 +2,103 @@
 // chain tells whether a name stands twice, and which lane has it.
 #![tactic(auto)]
 
-ghost use Rattle.std.specs.Prelude.{◌≡◌, [], ◌+◌, ◌≤◌, ◌<◌, length, take, get_or};
+ghost use Rattle.std.specs.Prelude.{◌≡◌, [], ◌+◌, ◌-◌, ◌≤◌, ◌<◌, true, false, length, take, drop, get_or, MatchOption};
 ghost use Rattle.ground.specs.Lists.{all};
-ghost use Rattle.names.specs.Names.{same, cut, printing, name_ok};
-ghost use Rattle.names.specs.Inner.{Widened, Placed, Span, Spans, Cuts, hash_of, Chained, Found, Indexed, Tabled, Fresh, Linked};
+ghost use Rattle.names.specs.Names.{cut, lines_of, name_ok, table_ok, lane_of, name_at};
+ghost use Rattle.names.specs.Inner.{Placed, Span, Spans, Cuts, hash_of, Chained, Finds, Indexed, Table, Fresh, Linked};
 
 // The longest name.
 pub const LONGEST: usize = 64;
 
-// ---- bytes
-
-fn wide(x: u8) -> usize
-    ensures { Widened x result }
-{
-    x as usize
+// The table of names: each lane's name where it stands, and the chains by which a name is found.
+#[derive(Clone, Copy)]
+pub struct NameTable<'a> {
+    pub names: &'a [u8],
+    starts: &'a [usize; 4098],
+    ends: &'a [usize; 4098],
+    heads: &'a [usize; 4096],
+    links: &'a [usize; 4096],
+    pub lanes: usize,
+    pub ghost read: { Table names.now starts.now ends.now heads.now links.now lanes },
 }
 
-// Whether two texts are one.
-pub fn are_same(s: &[u8], t: &[u8]) -> bool
-    ensures { result ≡ same s.now t.now }
-{
-    let n = s.len();
-    if n == t.len() {
-        let mut i: usize = 0;
-        while i < n {
-            if s[i] == t[i] {
-                i += 1;
-            } else {
-                return false;
-            }
+impl<'a> NameTable<'a> {
+    // The table, if it has a good name for each of so many lanes, or none (34); their places and their chains are put into the rooms.
+    pub fn read(
+        names: &'a [u8],
+        starts: &'a mut [usize; 4098],
+        ends: &'a mut [usize; 4098],
+        heads: &'a mut [usize; 4096],
+        links: &'a mut [usize; 4096],
+        lanes: usize,
+    ) -> Option<NameTable<'a>>
+        requires { (lanes ≤ 4096) × (length starts.old ≡ 4098) × (length ends.old ≡ 4098) × Chained (cut 10 names.now) heads.old links.old 0 }
+        ensures { MatchOption result (table_ok lanes names.now ≡ false) (λ t. (table_ok lanes names.now ≡ true) × (t.names.now ≡ names.now) × (t.lanes ≡ lanes)) }
+    {
+        let count = cut_into(names, b'\n', starts, ends);
+        if count == lanes + 1
+            && starts[lanes] == ends[lanes]
+            && are_names(names, starts, ends, lanes)
+            && chain_names(names, starts, ends, heads, links, lanes)
+        {
+            Some(NameTable {
+                names,
+                starts,
+                ends,
+                heads,
+                links,
+                lanes,
+            })
+        } else {
+            None
         }
-        true
-    } else {
-        false
+    }
+
+    // The name of a lane.
+    pub fn name(&self, lane: usize) -> &'a [u8]
+        requires { lane < self.now.lanes }
+        ensures { result.now ≡ name_at (lines_of self.now.names.now) lane }
+    {
+        let names = self.names;
+        let starts = self.starts;
+        let ends = self.ends;
+        part_at(names, starts, ends, lane)
+    }
+
+    // The lane of a name.
+    pub fn find(&self, name: &[u8]) -> Option<usize>
+        ensures { Finds (cut 10 self.now.names.now) self.now.lanes name.now result }
+    {
+        find_among(
+            self.names,
+            self.starts,
+            self.ends,
+            self.heads,
+            self.links,
+            self.lanes,
+            name,
+        )
+    }
+
+    // The lane of a name, or the count of lanes where none has it.
+    pub fn lane_of(&self, name: &[u8]) -> usize
+        ensures { result ≡ lane_of (lines_of self.now.names.now) name.now }
+    {
+        self.find(name).unwrap_or(self.lanes)
     }
 }
+
+// ---- bytes
 
 // The place of the first byte b from a place on, or the text's end.
 pub fn place_of(s: &[u8], at: usize, b: u8) -> usize
     requires { at ≤ length s.now }
     ensures { Placed s.now at b result }
 {
-    let n = s.len();
-    let mut i = at;
-    while i < n {
-        if s[i] == b {
-            return i;
-        }
-        i += 1;
+    match s[at..].iter().position(|x| *x == b) {
+        Some(i) => at + i,
+        None => s.len(),
     }
-    i
 }
 
 // Where the parts of a text begin and end, as far as there is room; how many they are.
@@ -59,87 +106,53 @@ pub fn cut_into(s: &[u8], b: u8, starts: &mut [usize], ends: &mut [usize]) -> us
     requires { length ends.old ≡ length starts.old }
     ensures { Cuts s.now b (length starts.old) starts.new ends.new result }
 {
-    let n = s.len();
-    let room = starts.len();
     let mut at: usize = 0;
-    let mut k: usize = 0;
-    while k < room {
+    for k in 0..starts.len() {
         let e = place_of(s, at, b);
         starts[k] = at;
         ends[k] = e;
-        k += 1;
-        if n <= e {
-            return k;
+        if s.len() <= e {
+            return k + 1;
         }
         at = e + 1;
     }
-    k
+    starts.len()
+}
+
+// The part of a text between two places.
+pub fn part_at<'a>(s: &'a [u8], starts: &[usize], ends: &[usize], j: usize) -> &'a [u8]
+    requires { (j < length starts.now) × (j < length ends.now) × (get_or starts.now j 0 ≤ get_or ends.now j 0) × (get_or ends.now j 0 ≤ length s.now) }
+    ensures { result.now ≡ take (get_or ends.now j 0 - get_or starts.now j 0) (drop (get_or starts.now j 0) s.now) }
+{
+    let from = starts[j];
+    let to = ends[j];
+    &s[from..to]
 }
 
 // ---- names
-
-fn is_printing(x: u8) -> bool
-    ensures { result ≡ printing x }
-{
-    ground::is_within(33, 126, wide(x))
-}
-
-fn is_printed(s: &[u8]) -> bool
-    ensures { result ≡ all printing s.now }
-{
-    let n = s.len();
-    let mut i: usize = 0;
-    while i < n {
-        if is_printing(s[i]) {
-            i += 1;
-        } else {
-            return false;
-        }
-    }
-    true
-}
 
 // 1 to 64 printing bytes without a space.
 pub fn is_name(s: &[u8]) -> bool
     ensures { result ≡ name_ok s.now }
 {
-    ground::both(ground::is_within(1, LONGEST, s.len()), is_printed(s))
+    (1..=LONGEST).contains(&s.len()) && s.iter().all(|x| (33..=126).contains(x))
 }
 
 // The chain of a name.
 fn hash(s: &[u8]) -> usize
     ensures { (result ≡ hash_of s.now) × (result < 4096) }
 {
-    let n = s.len();
     let mut h: usize = 0;
-    let mut i: usize = 0;
-    while i < n {
-        h = (h * 131 + wide(s[i])) % 1048573;
-        i += 1;
+    for x in s {
+        h = (h * 131 + usize::from(*x)) % 1048573;
     }
     h % 4096
 }
 
 // ---- the table
 
-// Whether the name of a number is this one.
-fn is_name_at(
-    names: &[u8],
-    starts: &[usize; 4098],
-    ends: &[usize; 4098],
-    j: usize,
-    key: &[u8],
-) -> bool
-    requires { (j < 4098) × Span names.now starts.now ends.now j (get_or (cut 10 names.now) j []) }
-    ensures { result ≡ same (get_or (cut 10 names.now) j []) key.now }
-{
-    let a = starts[j];
-    let e = ends[j];
-    are_same(&names[a..e], key)
-}
-
-// The number of a name among the first n, or n.
-pub fn find(
+// The number of a name among the first n.
+fn find_among(
     names: &[u8],
     starts: &[usize; 4098],
     ends: &[usize; 4098],
@@ -147,20 +160,20 @@ pub fn find(
     links: &[usize; 4096],
     n: usize,
     key: &[u8],
-) -> usize
+) -> Option<usize>
     requires { Indexed names.now starts.now ends.now heads.now links.now n }
-    ensures { Found (cut 10 names.now) n key.now result }
+    ensures { Finds (cut 10 names.now) n key.now result }
 {
     let c = hash(key);
     let mut p = heads[c];
     while 0 < p {
         let j = p - 1;
-        if is_name_at(names, starts, ends, j, key) {
-            return j;
+        if part_at(names, starts, ends, j) == key {
+            return Some(j);
         }
         p = links[j];
     }
-    n
+    None
 }
 
 // Whether no earlier name is the one of this number.
@@ -175,10 +188,8 @@ fn is_fresh(
     requires { (i < 4096) × Indexed names.now starts.now ends.now heads.now links.now i × Span names.now starts.now ends.now i (get_or (cut 10 names.now) i []) }
     ensures { Fresh (cut 10 names.now) i result }
 {
-    let a = starts[i];
-    let e = ends[i];
-    let j = find(names, starts, ends, heads, links, i, &names[a..e]);
-    j == i
+    let name = part_at(names, starts, ends, i);
+    find_among(names, starts, ends, heads, links, i, name).is_none()
 }
 
 // The name of a number is put before the others of its chain.
@@ -193,9 +204,7 @@ fn chain_name(
     requires { (i < 4096) × Chained (cut 10 names.now) heads.old links.old i × Span names.now starts.now ends.now i (get_or (cut 10 names.now) i []) }
     ensures { Chained (cut 10 names.now) heads.new links.new (i + 1) }
 {
-    let a = starts[i];
-    let e = ends[i];
-    let c = hash(&names[a..e]);
+    let c = hash(part_at(names, starts, ends, i));
     links[i] = heads[c];
     heads[c] = i + 1;
 }
@@ -212,67 +221,19 @@ fn chain_names(
     requires { (lanes ≤ 4096) × (lanes ≤ length (cut 10 names.now)) × Spans names.now (cut 10 names.now) starts.now ends.now lanes × Chained (cut 10 names.now) heads.old links.old 0 }
     ensures { Linked (cut 10 names.now) heads.new links.new lanes result }
 {
-    let mut i: usize = 0;
-    while i < lanes {
-        if is_fresh(names, starts, ends, heads, links, i) {
-            chain_name(names, starts, ends, heads, links, i);
-            i += 1;
-        } else {
+    for i in 0..lanes {
+        if !is_fresh(names, starts, ends, heads, links, i) {
             return false;
         }
+        chain_name(names, starts, ends, heads, links, i);
     }
     true
 }
 
-// Whether the line of a number is a name.
-fn is_name_of(names: &[u8], starts: &[usize; 4098], ends: &[usize; 4098], j: usize) -> bool
-    requires { (j < 4098) × Span names.now starts.now ends.now j (get_or (cut 10 names.now) j []) }
-    ensures { result ≡ name_ok (get_or (cut 10 names.now) j []) }
-{
-    let a = starts[j];
-    let e = ends[j];
-    is_name(&names[a..e])
-}
-
+// Whether the first lines are names.
 fn are_names(names: &[u8], starts: &[usize; 4098], ends: &[usize; 4098], lanes: usize) -> bool
     requires { (lanes ≤ 4096) × (lanes ≤ length (cut 10 names.now)) × Spans names.now (cut 10 names.now) starts.now ends.now lanes }
     ensures { result ≡ all name_ok (take lanes (cut 10 names.now)) }
 {
-    let mut i: usize = 0;
-    while i < lanes {
-        if is_name_of(names, starts, ends, i) {
-            i += 1;
-        } else {
-            return false;
-        }
-    }
-    true
-}
-
-// 34: whether the table has a name for each of so many lanes; their places, and their chains.
-pub fn read_table(
-    names: &[u8],
-    starts: &mut [usize; 4098],
-    ends: &mut [usize; 4098],
-    heads: &mut [usize; 4096],
-    links: &mut [usize; 4096],
-    lanes: usize,
-) -> bool
-    requires { (lanes ≤ 4096) × (length starts.old ≡ 4098) × (length ends.old ≡ 4098) × Chained (cut 10 names.now) heads.old links.old 0 }
-    ensures { Tabled names.now starts.new ends.new heads.new links.new lanes result }
-{
-    let count = cut_into(names, b'\n', starts, ends);
-    if count == lanes + 1 {
-        if starts[lanes] == ends[lanes] {
-            if are_names(names, starts, ends, lanes) {
-                chain_names(names, starts, ends, heads, links, lanes)
-            } else {
-                false
-            }
-        } else {
-            false
-        }
-    } else {
-        false
-    }
+    (0..lanes).all(|j| is_name(part_at(names, starts, ends, j)))
 }

@@ -73,20 +73,22 @@ pub follow_start : {ws links : List ℕ} {s : Segment} {head : ℕ} → Followin
 follow_start = record { near = omega arith; todo = refl }
 
 module _ {ws links : List ℕ} {s : Segment} {head e : ℕ} (p : Following ws links s head e) where
-  module _ (d : Descends links) (pos : 0 < e) (t : Segment) (r : Bool) (et : t ≡ segment_of (drop e ws)) (er : r ≡ not (overlap s t)) where
-    pub follow_again : r ≡ true → Following ws links s head (get_or links (e / 4) 0)
+  module _ (d : Descends links) (pos : 0 < e) (r : Bool) (er : r ≡ overlap s (segment_of (drop e ws))) where
+    pub follow_again : r ≡ false → Following ws links s head (get_or links (e / 4) 0)
     unfolding all
     follow_again z =
         let q = goes_down links d {e = e} pos in
-        record { near = omega (arith, p.near); todo = p.todo ∙ rw (chain_next links d ws e pos, ← et, ← er, z) }
+        record { near = omega (arith, p.near); todo = p.todo ∙ rw (chain_next links d ws e pos, ← er, z) }
 
-    pub follow_fails : r ≡ false → false ≡ clear s (chain_of ws links head)
+    pub follow_fails : r ≡ true → false ≡ clear s (chain_of ws links head)
     unfolding all
-    follow_fails z = rw (p.todo, chain_next links d ws e pos, ← et, ← er, z)
+    follow_fails z = rw (p.todo, chain_next links d ws e pos, ← er, z)
 
   pub follow_ends : e ≤ 0 → true ≡ clear s (chain_of ws links head)
   unfolding all
   follow_ends z = rw (p.todo, chain_none ws links e z)
+
+pub ruleset follow_steps = (follow_start, goes_down, follow_again, follow_fails, follow_ends)
 
 -- ---- a chain between two numbers
 
@@ -119,15 +121,6 @@ module _ (low top : ℕ) (s : Segment) where
   ahead h (t ∷ l) w =
       let z : ltb t.start s.end ≡ false = le-ltb t.start s.end (omega (arith, w.0.from)) in
       rw (z, and-false (eqb s.source t.source && ltb s.start t.end)) (ahead h l w.1)
-
-  module _ (r : Bool) (er : r ≡ leb top s.start) where
-    pub outside_behind : r ≡ true → true ≡ outside s low top
-    unfolding outside
-    outside_behind z = rw (← er, z)
-
-    pub outside_else : (q : Bool) → q ≡ leb s.end low → r ≡ false → q ≡ outside s low top
-    unfolding outside
-    outside_else q eq z = rw (← er, z, eq)
 
   outside_clear : (l : List Segment) → Within low top l → outside s low top ≡ true → clear s l ≡ true
   unfolding outside
@@ -295,41 +288,46 @@ module _ (ws heads links lows tops : List ℕ) (at : ℕ) (l : Linked ws heads l
     unfolding all_off all
     link_met z = record { linked = linked_later (omega arith) l; same = λ rest. rw (← et, first, z) }
 
--- ---- a route
+-- ---- a route: i of its segments have been chained
 
-pub record Linking (ws : List ℕ) (at left : ℕ) (heads links heads' links' lows' tops' : List ℕ) (place n : ℕ) : Type 0 where
-  pub linked : Linked ws heads' links' lows' tops' place
-  pub same : place + 4 * n ≡ at + 4 * left
-  pub some : at ≤ place
-  pub todo : (rest : List Segment) → all_off ws heads' links' (segments_of n (drop place ws) ++ rest) ≡ all_off ws heads links (segments_of left (drop at ws) ++ rest)
+pub record Linking (ws : List ℕ) (at left : ℕ) (heads links heads' links' lows' tops' : List ℕ) (i : ℕ) : Type 0 where
+  pub linked : Linked ws heads' links' lows' tops' (at + 4 * i)
+  pub todo : (rest : List Segment) → all_off ws heads' links' (segments_of (left - i) (drop (at + 4 * i) ws) ++ rest) ≡ all_off ws heads links (segments_of left (drop at ws) ++ rest)
 
-pub linking_start : {ws heads links lows tops : List ℕ} {at left : ℕ} → Linked ws heads links lows tops at → Linking ws at left heads links heads links lows tops at left
-linking_start l = record { linked = l; same = refl; some = omega arith; todo = λ rest. refl }
+pub linking_start : {ws heads links lows tops : List ℕ} {at left : ℕ} → Linked ws heads links lows tops at → Linking ws at left heads links heads links lows tops 0
+linking_start {ws} {heads} {links} {lows} {tops} {at} {left} l =
+    let z : at + 4 * 0 ≡ at = omega arith in
+    let y : left - 0 ≡ left = omega arith in
+    record { linked = rw z l; todo = λ rest. rw (z, y) }
 
-module _ {ws heads links heads₁ links₁ lows₁ tops₁ : List ℕ} {at left place n : ℕ} (p : Linking ws at left heads links heads₁ links₁ lows₁ tops₁ place n) where
-  module _ {heads₂ links₂ lows₂ tops₂ : List ℕ} (pos : 0 < n) (r : Bool) (o : LinkedOne ws place heads₁ links₁ heads₂ links₂ lows₂ tops₂ r) where
-    step : (rest : List Segment) → (r && all_off ws heads₂ links₂ (segments_of (n - 1) (drop (place + 4) ws) ++ rest)) ≡ all_off ws heads links (segments_of left (drop at ws) ++ rest)
-    step rest = o.same (segments_of (n - 1) (drop (place + 4) ws) ++ rest) ∙ rw (segments_next ws place n pos) at (p.todo rest)
+module _ {ws heads links heads₁ links₁ lows₁ tops₁ : List ℕ} {at left i : ℕ} (p : Linking ws at left heads links heads₁ links₁ lows₁ tops₁ i) where
+  module _ {heads₂ links₂ lows₂ tops₂ : List ℕ} (more : i < left) (r : Bool) (o : LinkedOne ws (at + 4 * i) heads₁ links₁ heads₂ links₂ lows₂ tops₂ r) where
+    step : (rest : List Segment) → (r && all_off ws heads₂ links₂ (segments_of (left - (i + 1)) (drop (at + 4 * (i + 1)) ws) ++ rest)) ≡ all_off ws heads links (segments_of left (drop at ws) ++ rest)
+    step rest =
+        let z : left - i - 1 ≡ left - (i + 1) = omega arith in
+        let y : at + 4 * i + 4 ≡ at + 4 * (i + 1) = omega arith in
+        o.same (segments_of (left - (i + 1)) (drop (at + 4 * (i + 1)) ws) ++ rest) ∙ rw (segments_next ws (at + 4 * i) (left - i) (omega arith), z, y) at (p.todo rest)
 
-    pub linking_again : r ≡ true → Linking ws at left heads links heads₂ links₂ lows₂ tops₂ (place + 4) (n - 1)
-    linking_again z = record { linked = o.linked; same = omega (arith, p.same); some = omega (arith, p.some); todo = λ rest. ap (λ (x : Bool). x && all_off ws heads₂ links₂ (segments_of (n - 1) (drop (place + 4) ws) ++ rest)) (sym z) ∙ step rest }
+    pub linking_again : r ≡ true → Linking ws at left heads links heads₂ links₂ lows₂ tops₂ (i + 1)
+    linking_again z = record { linked = linked_later (omega arith) o.linked; todo = λ rest. ap (λ (x : Bool). x && all_off ws heads₂ links₂ (segments_of (left - (i + 1)) (drop (at + 4 * (i + 1)) ws) ++ rest)) (sym z) ∙ step rest }
 
     pub linking_fails : r ≡ false → LinkedRoute ws at left heads links heads₂ links₂ lows₂ tops₂ false
     linking_fails z =
         record {
-          linked = linked_later (omega (arith, p.same)) o.linked;
-          same = λ rest. ap (λ (x : Bool). x && all_off ws heads₂ links₂ (segments_of (n - 1) (drop (place + 4) ws) ++ rest)) (sym z) ∙ step rest;
+          linked = linked_later (omega arith) o.linked;
+          same = λ rest. ap (λ (x : Bool). x && all_off ws heads₂ links₂ (segments_of (left - (i + 1)) (drop (at + 4 * (i + 1)) ws) ++ rest)) (sym z) ∙ step rest;
         }
 
-  pub linking_ends : n ≤ 0 → LinkedRoute ws at left heads links heads₁ links₁ lows₁ tops₁ true
-  linking_ends z = record { linked = linked_later (omega (arith, p.same)) p.linked; same = λ rest. sym (rw (segments_none ws place n z) at (sym (p.todo rest))) }
+  pub linking_ends : i ≤ left → left ≤ i → LinkedRoute ws at left heads links heads₁ links₁ lows₁ tops₁ true
+  linking_ends low z = record { linked = linked_later (omega arith) p.linked; same = λ rest. sym (rw (segments_none ws (at + 4 * i) (left - i) (omega arith)) at (sym (p.todo rest))) }
 
 -- ---- all routes
 
-pub record AllLinked (ws : List ℕ) (at routes : ℕ) (heads links lows tops : List ℕ) (place n : ℕ) : Type 0 where
-  pub parsed : Parsed ws n place
+-- i of them have been chained
+pub record AllLinked (ws : List ℕ) (at routes : ℕ) (heads links lows tops : List ℕ) (place i : ℕ) : Type 0 where
+  pub parsed : Parsed ws (routes - i) place
   pub linked : Linked ws heads links lows tops place
-  pub todo : all_off ws heads links (flat (routes_of n (drop place ws))) ≡ apart (flat (routes_of routes (drop at ws)))
+  pub todo : all_off ws heads links (flat (routes_of (routes - i) (drop place ws))) ≡ apart (flat (routes_of routes (drop at ws)))
 
 get_d_zeros : (n j : ℕ) → get_or {A = ℕ} (replicate n 0) j 0 ≡ 0
 get_d_zeros zero j = refl
@@ -349,11 +347,12 @@ all_clear ws heads links e (u ∷ l) = rw (all_empty ws heads links e (bucket u)
 
 pub all_linked_start : {ws heads links lows tops : List ℕ} {at routes : ℕ} → Parsed ws routes at
     → heads ≡ replicate 4096 0 → links ≡ replicate 16384 0 → lows ≡ replicate 4096 18446744073709551615 → tops ≡ replicate 4096 0
-    → AllLinked ws at routes heads links lows tops at routes
+    → AllLinked ws at routes heads links lows tops at 0
 unfolding Descends all_off
 all_linked_start {ws} {heads} {links} {lows} {tops} {at} {routes} p e f g h =
+    let all : routes - 0 ≡ routes = omega arith in
     record {
-      parsed = p;
+      parsed = rw all p;
       linked =
           record {
             lanes = rw e (length-replicate {A = ℕ} 4096 0);
@@ -364,26 +363,34 @@ all_linked_start {ws} {heads} {links} {lows} {tops} {at} {routes} p e f g h =
             top_lanes = rw h (length-replicate {A = ℕ} 4096 0);
             within = λ b. within_none (get_or lows b 0) (get_or tops b 0) (chain_of ws links (get_or heads b 0)) (all_empty ws heads links e b);
           };
-      todo = rw (all_clear ws heads links e (flat (routes_of routes (drop at ws))));
+      todo = rw (all, all_clear ws heads links e (flat (routes_of routes (drop at ws))));
     }
 
-module _ {ws heads links lows tops : List ℕ} {at routes place n : ℕ} (p : AllLinked ws at routes heads links lows tops place n) where
-  pub all_linked_route : 0 < n → place + 1 + 4 * get_or ws place 0 ≤ length ws
-  all_linked_route h = parsed_route p.parsed h
+module _ {ws heads links lows tops : List ℕ} {at routes place i : ℕ} (p : AllLinked ws at routes heads links lows tops place i) where
+  pub all_linked_route : i < routes → place + 1 + 4 * get_or ws place 0 ≤ length ws
+  all_linked_route h = parsed_route p.parsed (omega arith)
 
   pub all_linked_here : Linked ws heads links lows tops (place + 1)
   all_linked_here = linked_later (omega arith) p.linked
 
-  module _ {heads₁ links₁ lows₁ tops₁ : List ℕ} (pos : 0 < n) (k : ℕ) (c : RouteAt ws place k) (r : Bool) (o : LinkedRoute ws (place + 1) k heads links heads₁ links₁ lows₁ tops₁ r) where
-    after : (r && all_off ws heads₁ links₁ (flat (routes_of (n - 1) (drop (place + 1 + 4 * k) ws)))) ≡ apart (flat (routes_of routes (drop at ws)))
-    after = o.same (flat (routes_of (n - 1) (drop (place + 1 + 4 * k) ws))) ∙ sym (rw (routes_next ws place n k pos c.count) at (sym p.todo))
+  module _ {heads₁ links₁ lows₁ tops₁ : List ℕ} (more : i < routes) (k : ℕ) (c : RouteAt ws place k) (r : Bool) (o : LinkedRoute ws (place + 1) k heads links heads₁ links₁ lows₁ tops₁ r) where
+    fewer : routes - i - 1 ≡ routes - (i + 1)
+    fewer = omega arith
 
-    pub all_linked_again : r ≡ true → AllLinked ws at routes heads₁ links₁ lows₁ tops₁ (place + 1 + 4 * k) (n - 1)
-    all_linked_again z = record { parsed = parsed_next p.parsed pos c.count; linked = o.linked; todo = ap (λ (x : Bool). x && all_off ws heads₁ links₁ (flat (routes_of (n - 1) (drop (place + 1 + 4 * k) ws)))) (sym z) ∙ after }
+    after : (r && all_off ws heads₁ links₁ (flat (routes_of (routes - (i + 1)) (drop (place + 1 + 4 * k) ws)))) ≡ apart (flat (routes_of routes (drop at ws)))
+    after = o.same (flat (routes_of (routes - (i + 1)) (drop (place + 1 + 4 * k) ws))) ∙ sym (rw (routes_next ws place (routes - i) k (omega arith) c.count, fewer) at (sym p.todo))
+
+    pub all_linked_again : r ≡ true → AllLinked ws at routes heads₁ links₁ lows₁ tops₁ (place + 1 + 4 * k) (i + 1)
+    all_linked_again z =
+        record {
+          parsed = rw (← fewer) (parsed_next p.parsed (omega arith) c.count);
+          linked = o.linked;
+          todo = ap (λ (x : Bool). x && all_off ws heads₁ links₁ (flat (routes_of (routes - (i + 1)) (drop (place + 1 + 4 * k) ws)))) (sym z) ∙ after;
+        }
 
     pub all_linked_fails : r ≡ false → false ≡ apart (flat (routes_of routes (drop at ws)))
-    all_linked_fails z = ap (λ (x : Bool). x && all_off ws heads₁ links₁ (flat (routes_of (n - 1) (drop (place + 1 + 4 * k) ws)))) (sym z) ∙ after
+    all_linked_fails z = ap (λ (x : Bool). x && all_off ws heads₁ links₁ (flat (routes_of (routes - (i + 1)) (drop (place + 1 + 4 * k) ws)))) (sym z) ∙ after
 
-  pub all_linked_ends : n ≤ 0 → true ≡ apart (flat (routes_of routes (drop at ws)))
+  pub all_linked_ends : routes ≤ i → true ≡ apart (flat (routes_of routes (drop at ws)))
   unfolding all_off all apart
-  all_linked_ends z = rw (routes_none (drop place ws) n z) at p.todo
+  all_linked_ends z = rw (routes_none (drop place ws) (routes - i) (omega arith)) at p.todo

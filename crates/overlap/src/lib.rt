@@ -1,7 +1,7 @@
 // Refusal 31: whether two segments share a base. Each segment is held against the earlier ones of its lane, which are chained by lane; one that lies outside all of them is clear without a walk.
 #![tactic(auto)]
 
-ghost use Rattle.std.specs.Prelude.{◌≡◌, not, ◌+◌, ◌*◌, ◌≤◌, ◌<◌, min, max, length, drop, replicate};
+ghost use Rattle.std.specs.Prelude.{◌≡◌, ◌+◌, ◌*◌, ◌≤◌, ◌<◌, length, drop};
 ghost use Rattle.evaluate.specs.Segments.{overlap, clear, apart, flat};
 ghost use Rattle.words.specs.Inner.{routes_of, Parsed};
 ghost use Rattle.overlap.specs.Chains.{bucket, chain_of, outside, Within, Descends, Linked, LinkedOne, LinkedRoute};
@@ -9,20 +9,11 @@ ghost use Rattle.overlap.specs.Chains.{bucket, chain_of, outside, Within, Descen
 fn is_overlap(s: evaluate::Segment, t: evaluate::Segment) -> bool
     ensures { result ≡ overlap s t }
 {
-    let here = ground::both(
-        words::is_equal(s.source, t.source),
-        words::is_below(s.start, t.end),
-    );
-    ground::both(here, words::is_below(t.start, s.end))
-}
-
-fn is_off(s: evaluate::Segment, t: evaluate::Segment) -> bool
-    ensures { result ≡ not (overlap s t) }
-{
-    !is_overlap(s, t)
+    s.source == t.source && s.start < t.end && t.start < s.end
 }
 
 // The chain of a segment: 01 has up to 4,096 lanes.
+#[tactic(auto, unfolding(crate::specs::Chains::bucket))]
 pub fn chain_of(s: evaluate::Segment) -> usize
     ensures { (result ≡ bucket s) × (result < 4096) }
 {
@@ -30,34 +21,31 @@ pub fn chain_of(s: evaluate::Segment) -> usize
 }
 
 // Whether a segment shares no base with those of a chain.
+#[tactic(auto, using(crate::proofs::ChainLaws::follow_steps))]
 fn is_clear_of(words: &[u64], links: &[usize; 16384], s: evaluate::Segment, head: usize) -> bool
     requires { Descends links.now × (head + 4 ≤ length words.now) × (length words.now ≤ 65536) }
     ensures { result ≡ clear s (chain_of words.now links.now head) }
 {
     let mut e = head;
     while 0 < e {
-        let t = words::segment_at(words, e);
-        if is_off(s, t) {
-            e = links[e / 4];
-        } else {
+        if is_overlap(s, words::segment_at(words, e)) {
             return false;
         }
+        e = links[e / 4];
     }
     true
 }
 
 // Whether a segment lies behind or before all that is between two numbers.
+#[tactic(auto, unfolding(crate::specs::Chains::outside))]
 pub fn is_outside(s: evaluate::Segment, low: u64, top: u64) -> bool
     ensures { result ≡ outside s low top }
 {
-    if words::is_up_to(top, s.start) {
-        true
-    } else {
-        words::is_up_to(s.end, low)
-    }
+    top <= s.start || s.end <= low
 }
 
 // The same of a chain that lies between two numbers: a segment outside them is clear of it without a walk.
+#[tactic(auto, using(crate::proofs::ChainLaws::clear_outside))]
 fn is_clear(
     words: &[u64],
     links: &[usize; 16384],
@@ -69,23 +57,7 @@ fn is_clear(
     requires { Within low top (chain_of words.now links.now head) × Descends links.now × (head + 4 ≤ length words.now) × (length words.now ≤ 65536) }
     ensures { result ≡ clear s (chain_of words.now links.now head) }
 {
-    if is_outside(s, low, top) {
-        true
-    } else {
-        is_clear_of(words, links, s, head)
-    }
-}
-
-fn lesser(a: u64, b: u64) -> u64
-    ensures { result ≡ min a b }
-{
-    if a < b { a } else { b }
-}
-
-pub fn greater(a: u64, b: u64) -> u64
-    ensures { result ≡ max a b }
-{
-    if a < b { b } else { a }
+    is_outside(s, low, top) || is_clear_of(words, links, s, head)
 }
 
 // The segment at a place against the earlier ones; it is the first of its chain afterwards.
@@ -105,15 +77,14 @@ fn link(
     let head = heads[b];
     let low = lows[b];
     let top = tops[b];
-    if is_clear(words, links, s, head, low, top) {
-        links[at / 4] = head;
-        heads[b] = at;
-        lows[b] = lesser(low, s.start);
-        tops[b] = greater(top, s.end);
-        true
-    } else {
-        false
+    if !is_clear(words, links, s, head, low, top) {
+        return false;
     }
+    links[at / 4] = head;
+    heads[b] = at;
+    lows[b] = low.min(s.start);
+    tops[b] = top.max(s.end);
+    true
 }
 
 // The segments of a route, one by one.
@@ -129,43 +100,13 @@ fn link_route(
     requires { Linked words.now heads.old links.old lows.old tops.old at × (0 < at) × (at + 4 * left ≤ length words.now) × (length words.now ≤ 65536) }
     ensures { LinkedRoute words.now at left heads.old links.old heads.new links.new lows.new tops.new result }
 {
-    let mut place = at;
-    let mut n = left;
-    while 0 < n {
-        if link(words, heads, links, lows, tops, place) {
-            place += evaluate::Segment::WORDS;
-            n -= 1;
-        } else {
+    for i in 0..left {
+        let place = at + evaluate::Segment::WORDS * i;
+        if !link(words, heads, links, lows, tops, place) {
             return false;
         }
     }
     true
-}
-
-fn no_heads() -> [usize; 4096]
-    ensures { result ≡ replicate 4096 0 }
-{
-    [0usize; 4096]
-}
-
-fn no_links() -> [usize; 16384]
-    ensures { result ≡ replicate 16384 0 }
-{
-    [0usize; 16384]
-}
-
-// Of an empty chain: no start is above this, so the first one takes its place.
-pub fn no_lows() -> [u64; 4096]
-    ensures { result ≡ replicate 4096 18446744073709551615 }
-{
-    [u64::MAX; 4096]
-}
-
-// Of an empty chain: every start is at or behind this.
-pub fn no_tops() -> [u64; 4096]
-    ensures { result ≡ replicate 4096 0 }
-{
-    [0u64; 4096]
 }
 
 // Whether no two segments share a base.
@@ -173,28 +114,21 @@ pub fn are_apart(words: &[u64], at: usize, routes: usize) -> bool
     requires { Parsed words.now routes at × (length words.now ≤ 65536) }
     ensures { result ≡ apart (flat (routes_of routes (drop at words.now))) }
 {
-    let mut heads = no_heads();
-    let mut links = no_links();
-    let mut lows = no_lows();
-    let mut tops = no_tops();
+    let mut heads = [0; 4096];
+    let mut links = [0; 16384];
+    // Of an empty chain: every start is below the low, and at or behind the top.
+    let mut lows = [u64::MAX; 4096];
+    let mut tops = [0u64; 4096];
     let mut place = at;
-    let mut n = routes;
-    while 0 < n {
+    for _ in 0..routes {
         let left = words::count_at(words, place);
-        if link_route(
-            words,
-            &mut heads,
-            &mut links,
-            &mut lows,
-            &mut tops,
-            place + 1,
-            left,
+        let route = place + 1;
+        if !link_route(
+            words, &mut heads, &mut links, &mut lows, &mut tops, route, left,
         ) {
-            place = place + 1 + evaluate::Segment::WORDS * left;
-            n -= 1;
-        } else {
             return false;
         }
+        place = route + evaluate::Segment::WORDS * left;
     }
     true
 }

@@ -10,11 +10,11 @@ use mathlib.Core.Bool.{Bool, true, false, ◌&&◌, ◌||◌}
 use mathlib.Core.List.{List, [], ◌∷◌}
 use mathlib.Core.Logic.{◌⊎◌, inl, inr}
 use lib.Dec.{leb, ltb}
-use lib.ListN.{length, drop, take, get_or, length-drop}
-use lib.Seq.{get_or-take, get_or-drop, length-take-le}
+use lib.ListN.{length, drop, take, get_or}
+use lib.Seq.{get_or-drop}
 use borrow.Author.Tests.{le-leb, lt-leb, leb-true, lt-ltb, le-ltb, ltb-true, leb-false, ne_eqb}
-use Rattle.ground.specs.Lists.{each, split, all, any, count, rising, numbers_from}
-use Rattle.ground.proofs.ListLaws.{both, each_length, each_from, all_at, all_next, all_done, Rises, rising_rises, Falls, Cut, RisingFrom, rising_start, rising_again, rising_fails, rising_ends, any_at, numbers_at, numbers_length}
+use Rattle.ground.specs.Lists.{each, split, all, any, count, numbers_from}
+use Rattle.ground.proofs.ListLaws.{both, each_length, each_from, all_at, all_next, all_done, Rises, rising_rises, Falls, Cut, any_at, numbers_at, numbers_length}
 use Rattle.storage.specs.Records.{port_of, no_port}
 use Rattle.storage.specs.Orders.{place_of, place, place_lt, place_before, same_port}
 use Rattle.storage.specs.Inner.{Offset}
@@ -36,22 +36,6 @@ pub letter_else : (b : ℕ) → (b ≡ 65 → ⊥) → (b ≡ 67 → ⊥) → (b
 unfolding letter
 letter_else b f g h k = rw (ne_eqb b 65 f, ne_eqb b 67 g, ne_eqb b 71 h, ne_eqb b 84 k)
 
-module _ (s : List ℕ) (at k : ℕ) where
-  pub letters_length : at + k ≤ length s → length (take k (drop at s)) ≡ k
-  letters_length h = length-take-le k (drop at s) (rw length-drop (omega arith))
-
-  -- a letter as the code reads it
-  pub letter_read : (i : ℕ) (r : Bool) → i < k → r ≡ letter (get_or s (at + i) 0) → r ≡ letter (get_or (take k (drop at s)) i 0)
-  letter_read i r lt e = e ∙ rw (get_or-take k (drop at s) i 0 lt, get_or-drop at s i 0)
-
--- the letters up to i, tested one by one
-pub record Tested (w : List ℕ) (k : ℕ) (good : Bool) (i : ℕ) : Type 0 where
-  pub within : i ≤ k
-  pub todo : all letter w ≡ (good && all letter (drop i w))
-
-pub tested_start : (w : List ℕ) (k : ℕ) → Tested w k true 0
-tested_start w k = record { within = omega arith; todo = refl }
-
 joined : (a b c : Bool) → (a && (b && c)) ≡ (a && b && c)
 joined true b c = refl
 joined false b c = refl
@@ -60,13 +44,13 @@ kept : (a : Bool) → (a && true) ≡ a
 kept true = refl
 kept false = refl
 
-module _ (w : List ℕ) (k i : ℕ) (good r : Bool) (so : Tested w k good i) (long : length w ≡ k) where
-  pub tested_next : (more : Bool) → i < k → r ≡ letter (get_or w i 0) → more ≡ (good && r) → Tested w k more (i + 1)
-  tested_next more lt test em =
-      record { within = omega arith; todo = so.todo ∙ rw (all_next 0 letter w i (omega arith), em, test) (joined good (letter (get_or w i 0)) (all letter (drop (i + 1) w))) }
+-- letters tested one by one, without a way out
+module _ (w : List ℕ) (i : ℕ) (good : Bool) (so : all letter w ≡ (good && all letter (drop i w))) where
+  pub tested_next : (r : Bool) → i < length w → r ≡ letter (get_or w i 0) → all letter w ≡ (good && r && all letter (drop (i + 1) w))
+  tested_next r lt test = so ∙ rw (all_next 0 letter w i lt, test) (joined good (letter (get_or w i 0)) (all letter (drop (i + 1) w)))
 
-pub tested_all : (w : List ℕ) (k i : ℕ) (good : Bool) → Tested w k good i → length w ≡ k → k ≤ i → good ≡ all letter w
-tested_all w k i good so long le = sym (so.todo ∙ rw (all_done 0 letter w i (omega arith)) (kept good))
+  pub tested_all : length w ≤ i → good ≡ all letter w
+  tested_all le = sym (so ∙ rw (all_done 0 letter w i le) (kept good))
 
 leb_minus : (a k n : ℕ) → k ≤ n → leb a (n - k) ≡ leb (a + k) n
 leb_minus a k n h = go (leb a (n - k)) refl
@@ -81,27 +65,24 @@ module _ (s : List ℕ) (h : Header) (source anchor : ℕ) where
   place_unnamed l = rw (le-ltb source h.lanes l)
 
   module _ (named : source < h.lanes) (e : Entry) (is : e ≡ get_or (entries h s) source no_entry) where
-    pub place_short : e.len < h.k → false ≡ sound_place h s source anchor
+    pub place_short : ¬ (h.k ≤ e.len) → false ≡ sound_place h s source anchor
     unfolding sound_place
     place_short l = rw (lt-ltb source h.lanes named, ← is, lt-leb (anchor + h.k) e.len (omega arith))
 
-    pub place_ends : h.k ≤ e.len → leb anchor (e.len - h.k) ≡ sound_place h s source anchor
+    pub place_ends : (last : ℕ) → h.k ≤ e.len → last ≡ e.len - h.k → leb anchor last ≡ sound_place h s source anchor
     unfolding sound_place
-    place_ends l = leb_minus anchor h.k e.len l ∙ rw (lt-ltb source h.lanes named, ← is)
+    place_ends last l f = rw f (leb_minus anchor h.k e.len l ∙ rw (lt-ltb source h.lanes named, ← is))
 
-pub record_told : (s : List ℕ) (h : Header) (at source anchor : ℕ) (a c d r : Bool) → a ≡ all letter (take h.k (drop at s)) → source ≡ (port_of h.k (drop at s)).source → anchor ≡ (port_of h.k (drop at s)).anchor
-    → c ≡ sound_place h s source anchor → d ≡ (a && leb (get_or s (at + h.k + 16) 0) 1) → r ≡ (d && c) → r ≡ sound_record h s (drop at s)
-unfolding sound_record
-record_told s h at source anchor a c d r ea es en ec ed er =
-    let e : at + h.k + 16 ≡ at + (h.k + 16) = omega arith in
-    rw (er, ed, ea, ec, es, en, get_or-drop at s (h.k + 16) 0, e)
+-- the reverse byte of a record
+pub turned_at : (s : List ℕ) (at k : ℕ) → get_or (drop at s) (k + 16) 0 ≡ get_or s (at + k + 16) 0
+turned_at s at k = let e : at + (k + 16) ≡ at + k + 16 = omega arith in rw (get_or-drop at s (k + 16) 0, e)
 
-pub record_of_told : (s : List ℕ) (h : Header) (base i at : ℕ) (r : Bool) → Offset s base h.ports h.k i at → i < h.ports → r ≡ sound_record h s (drop at s)
-    → r ≡ get_or (each (sound_record h s) (h.k + 17) h.ports (drop base s)) i true
-record_of_told s h base i at r off l e = e ∙ rw off.place (sym (each_from (sound_record h s) (h.k + 17) true h.ports s base i l))
+module _ (s : List ℕ) (h : Header) (base : ℕ) where
+  pub marks_length : length (each (sound_record h s) (h.k + 17) h.ports (drop base s)) ≡ h.ports
+  marks_length = each_length (sound_record h s) (h.k + 17) true h.ports (drop base s)
 
-pub marks_length : (s : List ℕ) (h : Header) (base : ℕ) → length (each (sound_record h s) (h.k + 17) h.ports (drop base s)) ≡ h.ports
-marks_length s h base = each_length (sound_record h s) (h.k + 17) true h.ports (drop base s)
+  pub mark_at : (i : ℕ) → i < h.ports → sound_record h s (drop (base + i * (h.k + 17)) s) ≡ get_or (each (sound_record h s) (h.k + 17) h.ports (drop base s)) i true
+  mark_at i lt = sym (each_from (sound_record h s) (h.k + 17) true h.ports s base i lt)
 
 -- ---- a lane's list by place
 
@@ -158,23 +139,6 @@ module _ (s : List ℕ) (h : Header) (l : Lane) (anchor : ℕ) (reverse : Bool) 
       go q k m true g = let long = row_length s h l stands in cc (falls at q k (omega arith) g)
       go q k m false g = g
 
--- ---- 7
-
--- a loop that asks whether element i stands in the relation to the next
-module _ {A : Type 0} (d : A) (f : A → A → Bool) (l : List A) (n : ℕ) (long : length l ≡ n) where
-  pub pairs_start : (n ≡ 0 → ⊥) → RisingFrom f l n (get_or l 0 d) 1
-  pairs_start ne = rising_start d f l n (get_or l 0 d) ne refl long
-
-  module _ (i : ℕ) (so : RisingFrom f l n (get_or l i d) (i + 1)) where
-    pub pairs_again : (r : Bool) → i < n - 1 → r ≡ f (get_or l i d) (get_or l (i + 1) d) → r ≡ true → RisingFrom f l n (get_or l (i + 1) d) (i + 1 + 1)
-    pairs_again r lt test = rising_again d f l n (get_or l i d) (i + 1) (get_or l (i + 1) d) r so (omega arith) refl test long
-
-    pub pairs_fail : (r : Bool) → i < n - 1 → r ≡ f (get_or l i d) (get_or l (i + 1) d) → r ≡ false → false ≡ rising f l
-    pairs_fail r lt test = rising_fails d f l n (get_or l i d) (i + 1) (get_or l (i + 1) d) r so (omega arith) refl test long
-
-    pub pairs_end : n - 1 ≤ i → true ≡ rising f l
-    pairs_end le = rising_ends f l n (get_or l i d) (i + 1) so (omega arith) long
-
 -- ---- 8
 
 same_place_is : (g a : Port) → same_port g a ≡ true → place a ≡ place g
@@ -221,20 +185,14 @@ any_one d f (a ∷ l) (suc i) lt e = sym (rw (← (any_one d f l i (omega arith)
 
 -- one that is found at once
 pub listed_near : (s : List ℕ) (h : Header) (g : Port) (l : Lane) (i source : ℕ) (r : Bool) → Stands s h l → l.number ≡ source → source ≡ g.source
-    → r ≡ (ltb i l.count && same_port g (get_or (ports_of h s l.number) i no_port)) → r ≡ true → true ≡ listed h s g
+    → r ≡ (ltb i l.count && same_port g (get_or (ports_of h s l.number) i no_port)) → r ≡ true → r ≡ listed h s g
 unfolding listed
 listed_near s h g l i source r stands n es t e =
     let (inside, same) = both (ltb i l.count) (same_port g (get_or (ports_of h s l.number) i no_port)) (sym t ∙ e) in
     let b = ltb-true i l.count inside in
     let m = row_length s h l stands in
     let room : i < length (ports_of h s l.number) = omega arith in
-    any_one no_port (same_port g) (ports_of h s l.number) i room same ∙ ap (λ (x : ℕ). any (same_port g) (ports_of h s x)) (n ∙ es)
-
-pub here_told : (i n : ℕ) (r b : Bool) → i < n → r ≡ b → r ≡ (ltb i n && b)
-here_told i n r b lt e = e ∙ rw (lt-ltb i n lt)
-
-pub here_none : (i n : ℕ) (b : Bool) → n ≤ i → false ≡ (ltb i n && b)
-here_none i n b le = rw (le-ltb i n le)
+    e ∙ any_one no_port (same_port g) (ports_of h s l.number) i room same ∙ ap (λ (x : ℕ). any (same_port g) (ports_of h s x)) (n ∙ es)
 
 pub hub_named : (s : List ℕ) (h : Header) (i : ℕ) (g : Port) → Ordered s h → i < h.ports → g ≡ get_or (hub h s) i no_port → g.source < h.lanes
 unfolding hub sound_records sound_record sound_place
@@ -262,9 +220,6 @@ module _ (s : List ℕ) (h : Header) (i at : ℕ) (off : Offset s h.hub_at h.por
 
   pub hub_named_at : Ordered s h → (port_of h.k (drop at s)).source < h.lanes
   hub_named_at o = hub_named s h i _ o lt hub_here
-
-  pub listed_at_told : (r : Bool) → r ≡ listed h s (port_of h.k (drop at s)) → r ≡ listed h s (get_or (hub h s) i no_port)
-  listed_at_told r t = t ∙ ap (listed h s) hub_here
 
 -- ---- what the tests say of one record
 
@@ -299,10 +254,13 @@ lane_port_sound s h l i p acc st lt e =
 pub lane_port_small : (s : List ℕ) (h : Header) (l : Lane) (i : ℕ) (p : Port) → Accepted s h → Stands s h l → i < l.count → p ≡ get_or (ports_of h s l.number) i no_port → p.anchor + h.k ≤ 4294967295
 lane_port_small s h l i p acc st lt e = port_small s h p acc.counted.framed acc.lengths (lane_port_sound s h l i p acc st lt e)
 
-pub own_told : (s : List ℕ) (h : Header) (l : Lane) (lane : ℕ) (r : Bool) → lane < h.lanes → l.number ≡ lane → r ≡ own_row h s l.number → r ≡ own_row h s (get_or (numbers_from 0 h.lanes) lane 0)
-own_told s h l lane r lt e t =
-    let same : l.number ≡ get_or (numbers_from 0 h.lanes) lane 0 = (let q = numbers_at 0 h.lanes lane lt in omega arith) in
-    t ∙ ap (own_row h s) same
+module _ (s : List ℕ) (h : Header) (i : ℕ) where
+  pub own_at : i < h.lanes → own_row h s i ≡ own_row h s (get_or (numbers_from 0 h.lanes) i 0)
+  own_at lt = ap (own_row h s) (let e = numbers_at 0 h.lanes i lt in omega arith)
+
+  pub listed_at : i < h.ports → listed h s (port_of h.k (drop (h.hub_at + i * (h.k + 17)) s)) ≡ listed h s (get_or (hub h s) i no_port)
+  unfolding hub
+  listed_at lt = ap (listed h s) (sym (each_from (port_of h.k) (h.k + 17) no_port h.ports s h.hub_at i lt))
 
 pub lanes_numbers : (h : Header) → length (numbers_from 0 h.lanes) ≡ h.lanes
 lanes_numbers h = numbers_length 0 h.lanes

@@ -2,87 +2,50 @@
 #![tactic(auto)]
 
 ghost use Rattle.std.specs.Prelude.{◌≡◌, ◌+◌, ◌≤◌, ◌<◌, true, ◌&&◌, ltb, eqb, length, drop, take, get_or};
-ghost use Rattle.ground.specs.Lists.{sum, each, all, count, numbers_from};
+ghost use Rattle.ground.specs.Lists.{sum, all, count};
 ghost use Rattle.storage.specs.Records.{port_of, no_port, record_size};
 ghost use Rattle.storage.specs.Orders.{place_before, same_port};
 ghost use Rattle.storage.specs.Inner.{Records};
 ghost use Rattle.image.specs.Sizes.{most_ports};
-ghost use Rattle.image.specs.Image.{entries, counts, ports_of, hub, no_entry};
+ghost use Rattle.image.specs.Image.{entries, counts, ports_of};
 ghost use Rattle.image.specs.Inner.{Framed, Started, Stands};
-ghost use Rattle.panel.specs.Refusals.{length_ok, sound4, letter, sound_place, sound_record, sound_records, from, own_row, own_rows, sound6, lane_rising, lanes_rising, hub_rising, sound7, listed, sound8};
+ghost use Rattle.panel.specs.Refusals.{length_ok, sound4, letter, sound_place, sound_record, sound_records, own_row, own_rows, sound6, lane_rising, lanes_rising, hub_rising, sound7, listed, sound8};
 ghost use Rattle.panel.specs.Inner.{Ordered};
 
 // ---- 4
-
-fn is_length(image: &[u8], h: image::Header, lane: usize) -> bool
-    requires { Framed image.now h × (lane < h.lanes) }
-    ensures { result ≡ length_ok (get_or (entries h image.now) lane no_entry) }
-{
-    let e = image::lane_entry(image, h, lane);
-    ground::is_within(1, image::Header::LENGTH, e.len as usize)
-}
 
 fn are_lengths(image: &[u8], h: image::Header) -> bool
     requires { Framed image.now h }
     ensures { result ≡ all length_ok (entries h image.now) }
 {
-    let n = h.lanes;
-    let mut i = 0;
-    while i < n {
-        if is_length(image, h, i) {
-            i += 1;
-        } else {
-            return false;
-        }
-    }
-    true
+    (0..h.lanes).all(|lane| {
+        let len = image::lane_entry(image, h, lane).len as usize;
+        (1..=image::Header::LENGTH).contains(&len)
+    })
 }
 
-// The counts are taken from N one by one, so that no sum wraps.
 fn is_total(image: &[u8], h: image::Header) -> bool
     requires { Framed image.now h }
     ensures { result ≡ eqb (sum (counts h image.now)) h.ports }
 {
-    let n = h.lanes;
-    let mut left = h.ports;
-    let mut i = 0;
-    while i < n {
-        let x = image::lane_count(image, h, i);
-        if left < x {
-            return false;
-        }
-        left -= x;
-        i += 1;
-    }
-    ground::same(0, left)
+    ground::adds_up(h.lanes, h.ports, |lane| image::lane_count(image, h, lane))
 }
 
+#[tactic(auto, unfolding(crate::specs::Refusals::sound4))]
 pub fn is_counted(image: &[u8], h: image::Header) -> bool
     requires { Framed image.now h }
     ensures { result ≡ sound4 h image.now }
 {
-    ground::both(are_lengths(image, h), is_total(image, h))
+    are_lengths(image, h) && is_total(image, h)
 }
 
 // ---- 6
 
+#[tactic(auto, using(crate::proofs::Laws::letter_else), unfolding(crate::specs::Refusals::letter))]
 fn is_letter(b: u8) -> bool
     ensures { result ≡ letter b }
 {
-    match b {
-        b'A' => true,
-        b'C' => true,
-        b'G' => true,
-        b'T' => true,
-        _ => false,
-    }
-}
-
-fn is_letter_at(image: &[u8], at: usize, k: usize, i: usize) -> bool
-    requires { (at + k ≤ length image.now) × (i < k) }
-    ensures { result ≡ letter (get_or (take k (drop at image.now)) i 0) }
-{
-    is_letter(image[at + i])
+    matches!(b, b'A' | b'C' | b'G' | b'T')
 }
 
 // All of them are read: without a way out in between, many are tested at once.
@@ -91,10 +54,8 @@ pub fn are_letters(image: &[u8], at: usize, k: usize) -> bool
     ensures { result ≡ all letter (take k (drop at image.now)) }
 {
     let mut good = true;
-    let mut i = 0;
-    while i < k {
-        good = ground::both(good, is_letter_at(image, at, k, i));
-        i += 1;
+    for b in &image[at..at + k] {
+        good &= is_letter(*b);
     }
     good
 }
@@ -105,19 +66,17 @@ fn is_place(image: &[u8], h: image::Header, source: u64, anchor: u64) -> bool
     ensures { result ≡ sound_place h image.now source anchor }
 {
     let lane = source as usize;
-    if lane < h.lanes {
-        let e = image::lane_entry(image, h, lane);
-        let k = h.k as u64;
-        if e.len < k {
-            false
-        } else {
-            anchor <= e.len - k
-        }
-    } else {
-        false
+    if h.lanes <= lane {
+        return false;
+    }
+    let len = image::lane_entry(image, h, lane).len;
+    match len.checked_sub(h.k as u64) {
+        Some(last) => anchor <= last,
+        None => false,
     }
 }
 
+#[tactic(auto, using(crate::proofs::Laws::turned_at), unfolding(crate::specs::Refusals::sound_record))]
 fn is_record(image: &[u8], h: image::Header, at: usize) -> bool
     requires { Framed image.now h × (at + record_size h.k ≤ length image.now) }
     ensures { result ≡ sound_record h image.now (drop at image.now) }
@@ -127,18 +86,7 @@ fn is_record(image: &[u8], h: image::Header, at: usize) -> bool
     let turned = image[at + k + 16] <= 1;
     let source = storage::source_at(image, at, k);
     let anchor = storage::anchor_at(image, at, k);
-    ground::both(
-        ground::both(letters, turned),
-        is_place(image, h, source, anchor),
-    )
-}
-
-fn is_record_of(image: &[u8], h: image::Header, base: usize, i: usize) -> bool
-    requires { Framed image.now h × Records image.now base h.ports h.k × (i < h.ports) }
-    ensures { result ≡ get_or (each (sound_record h image.now) (record_size h.k) h.ports (drop base image.now)) i true }
-{
-    let at = storage::offset(image, base, h.ports, h.k, i);
-    is_record(image, h, at)
+    letters && turned && is_place(image, h, source, anchor)
 }
 
 // Whether the N records from base on are sound.
@@ -146,78 +94,31 @@ fn are_records(image: &[u8], h: image::Header, base: usize) -> bool
     requires { Framed image.now h × Records image.now base h.ports h.k }
     ensures { result ≡ sound_records h image.now base }
 {
-    let n = h.ports;
-    let mut i = 0;
-    while i < n {
-        if is_record_of(image, h, base, i) {
-            i += 1;
-        } else {
-            return false;
-        }
-    }
-    true
-}
-
-fn is_from(image: &[u8], h: image::Header, l: image::Lane, i: usize) -> bool
-    requires { Stands image.now h l × (i < l.count) }
-    ensures { result ≡ from l.number (get_or (ports_of h image.now l.number) i no_port) }
-{
-    let source = image::lane_source(image, h, l, i);
-    ground::same(source as usize, l.number)
+    (0..h.ports).all(|i| is_record(image, h, storage::offset(image, base, h.ports, h.k, i)))
 }
 
 fn is_own(image: &[u8], h: image::Header, l: image::Lane) -> bool
     requires { Stands image.now h l }
     ensures { result ≡ own_row h image.now l.number }
 {
-    let n = l.count;
-    let mut i = 0;
-    while i < n {
-        if is_from(image, h, l, i) {
-            i += 1;
-        } else {
-            return false;
-        }
-    }
-    true
-}
-
-fn is_own_at(
-    image: &[u8],
-    h: image::Header,
-    starts: &[usize; image::Header::LANES],
-    lane: usize,
-) -> bool
-    requires { Started image.now h starts.now × (lane < h.lanes) }
-    ensures { result ≡ own_row h image.now (get_or (numbers_from 0 h.lanes) lane 0) }
-{
-    let l = image::lane_of(image, h, starts, lane);
-    is_own(image, h, l)
+    (0..l.count).all(|i| image::lane_source(image, h, l, i) as usize == l.number)
 }
 
 fn are_own(image: &[u8], h: image::Header, starts: &[usize; image::Header::LANES]) -> bool
     requires { Started image.now h starts.now }
     ensures { result ≡ own_rows h image.now }
 {
-    let n = h.lanes;
-    let mut i = 0;
-    while i < n {
-        if is_own_at(image, h, starts, i) {
-            i += 1;
-        } else {
-            return false;
-        }
-    }
-    true
+    (0..h.lanes).all(|lane| is_own(image, h, image::lane_of(image, h, starts, lane)))
 }
 
+#[tactic(auto, unfolding(crate::specs::Refusals::sound6))]
 pub fn are_sound(image: &[u8], h: image::Header, starts: &[usize; image::Header::LANES]) -> bool
     requires { Started image.now h starts.now }
     ensures { result ≡ sound6 h image.now }
 {
-    let lanes = are_records(image, h, h.lane_ports_at);
-    let hub = are_records(image, h, h.hub_at);
-    ground::both(ground::both(lanes, hub), are_own(image, h, starts))
+    are_records(image, h, h.lane_ports_at)
+        && are_records(image, h, h.hub_at)
+        && are_own(image, h, starts)
 }
 
 // ---- 7
@@ -226,76 +127,29 @@ fn is_hub_rising(image: &[u8], h: image::Header) -> bool
     requires { Framed image.now h }
     ensures { result ≡ hub_rising h image.now }
 {
-    let n = h.ports;
-    if n == 0 {
-        return true;
-    }
-    let last = n - 1;
-    let mut i = 0;
-    while i < last {
-        if image::is_hub_port_below(image, h, i) {
-            i += 1;
-        } else {
-            return false;
-        }
-    }
-    true
+    (0..h.ports.saturating_sub(1)).all(|i| image::is_hub_port_below(image, h, i))
 }
 
 fn is_lane_rising(image: &[u8], h: image::Header, l: image::Lane) -> bool
     requires { Stands image.now h l }
     ensures { result ≡ lane_rising (ports_of h image.now l.number) }
 {
-    let n = l.count;
-    if n == 0 {
-        return true;
-    }
-    let last = n - 1;
-    let mut i = 0;
-    while i < last {
-        if image::is_lane_port_below(image, h, l, i) {
-            i += 1;
-        } else {
-            return false;
-        }
-    }
-    true
-}
-
-fn is_number_rising(
-    image: &[u8],
-    h: image::Header,
-    starts: &[usize; image::Header::LANES],
-    lane: usize,
-) -> bool
-    requires { Started image.now h starts.now × (lane < h.lanes) }
-    ensures { result ≡ lane_rising (ports_of h image.now lane) }
-{
-    let l = image::lane_of(image, h, starts, lane);
-    is_lane_rising(image, h, l)
+    (0..l.count.saturating_sub(1)).all(|i| image::is_lane_port_below(image, h, l, i))
 }
 
 fn are_lanes_rising(image: &[u8], h: image::Header, starts: &[usize; image::Header::LANES]) -> bool
     requires { Started image.now h starts.now }
     ensures { result ≡ lanes_rising h image.now }
 {
-    let n = h.lanes;
-    let mut i = 0;
-    while i < n {
-        if is_number_rising(image, h, starts, i) {
-            i += 1;
-        } else {
-            return false;
-        }
-    }
-    true
+    (0..h.lanes).all(|lane| is_lane_rising(image, h, image::lane_of(image, h, starts, lane)))
 }
 
+#[tactic(auto, unfolding(crate::specs::Refusals::sound7))]
 pub fn are_rising(image: &[u8], h: image::Header, starts: &[usize; image::Header::LANES]) -> bool
     requires { Started image.now h starts.now }
     ensures { result ≡ sound7 h image.now }
 {
-    ground::both(are_lanes_rising(image, h, starts), is_hub_rising(image, h))
+    are_lanes_rising(image, h, starts) && is_hub_rising(image, h)
 }
 
 // ---- 8
@@ -316,30 +170,19 @@ fn evenly(l: image::Lane, anchor: u64) -> usize
     }
 }
 
-fn doubled(step: usize) -> usize {
-    if step < image::Header::PORTS {
-        step * 2 + 1
-    } else {
-        step
-    }
-}
-
-fn least(a: usize, b: usize) -> usize
-    ensures { (result ≤ a) × (result ≤ b) }
-{
-    if a < b { a } else { b }
-}
-
 // Where to look next between lo and hi: near a place, and from there by steps of at most half of what is left.
 fn probe(lo: usize, hi: usize, near: usize, step: usize) -> usize
     requires { lo < hi }
     ensures { (lo ≤ result) × (result < hi) }
 {
-    let far = least(step, (hi - lo) / 2);
+    let far = step.min((hi - lo) / 2);
     if near < lo {
-        return lo + far;
+        lo + far
+    } else if near < hi {
+        near
+    } else {
+        hi - 1 - far
     }
-    if near < hi { near } else { hi - 1 - far }
 }
 
 // How many ports of a lane stand before a place of its list: a search from where it would stand evenly, by growing steps, then by halves.
@@ -354,12 +197,12 @@ pub fn places_before(
     ensures { result ≡ count (place_before anchor reverse) (ports_of h image.now l.number) }
 {
     let near = evenly(l, anchor);
-    let mut step = 0;
+    let mut step: usize = 0;
     let mut lo = 0;
     let mut hi = l.count;
     while lo < hi {
         let at = probe(lo, hi, near, step);
-        step = doubled(step);
+        step = step.saturating_mul(2).saturating_add(1);
         if image::is_lane_port_before(image, h, l, at, anchor, reverse) {
             lo = at + 1;
         } else {
@@ -374,11 +217,7 @@ fn is_lane_port_here(image: &[u8], h: image::Header, l: image::Lane, i: usize, a
     requires { Stands image.now h l × (at + record_size h.k ≤ length image.now) }
     ensures { result ≡ (ltb i l.count && same_port (port_of h.k (drop at image.now)) (get_or (ports_of h image.now l.number) i no_port)) }
 {
-    if i < l.count {
-        image::is_lane_port(image, h, l, i, at)
-    } else {
-        false
-    }
+    i < l.count && image::is_lane_port(image, h, l, i, at)
 }
 
 // Whether the global record at a byte offset is in its lane's list: where it would stand evenly, or else where a search finds its place.
@@ -397,38 +236,16 @@ fn is_listed(
     let reverse = storage::reverse_at(image, at, k);
     let l = image::lane_of(image, h, starts, source as usize);
     let near = evenly(l, anchor);
-    if is_lane_port_here(image, h, l, near, at) {
-        return true;
-    }
-    let i = places_before(image, h, l, anchor, reverse);
-    is_lane_port_here(image, h, l, i, at)
-}
-
-fn is_listed_at(
-    image: &[u8],
-    h: image::Header,
-    starts: &[usize; image::Header::LANES],
-    i: usize,
-) -> bool
-    requires { Ordered image.now h × Started image.now h starts.now × (i < h.ports) }
-    ensures { result ≡ listed h image.now (get_or (hub h image.now) i no_port) }
-{
-    let at = storage::offset(image, h.hub_at, h.ports, h.k, i);
-    is_listed(image, h, starts, at)
+    is_lane_port_here(image, h, l, near, at)
+        || is_lane_port_here(image, h, l, places_before(image, h, l, anchor, reverse), at)
 }
 
 pub fn are_listed(image: &[u8], h: image::Header, starts: &[usize; image::Header::LANES]) -> bool
     requires { Ordered image.now h × Started image.now h starts.now }
     ensures { result ≡ sound8 h image.now }
 {
-    let n = h.ports;
-    let mut i = 0;
-    while i < n {
-        if is_listed_at(image, h, starts, i) {
-            i += 1;
-        } else {
-            return false;
-        }
-    }
-    true
+    (0..h.ports).all(|i| {
+        let at = storage::offset(image, h.hub_at, h.ports, h.k, i);
+        is_listed(image, h, starts, at)
+    })
 }

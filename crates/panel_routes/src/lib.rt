@@ -14,7 +14,7 @@ ghost use Rattle.bound.specs.Bound.{lower_bound};
 ghost use Rattle.bound.specs.Bounded.{BoundHolds};
 ghost use Rattle.search.specs.Answers.{Rooms, search_answer, search_rooms, ListRooms, list_answer, list_rooms};
 ghost use Rattle.engine.specs.Answer.{plain_answer, plain_out, PlainHolds};
-ghost use Rattle.panel_routes.specs.Replies.{panel_reply, port_reply, bucket_reply, letters_reply};
+ghost use Rattle.panel_routes.specs.Replies.{panel_reply, found_port, no_port, port_reply, bucket_reply, letters_reply};
 
 // Refusal 0: none. Fields that an answer does not use are 0.
 #[repr(C)]
@@ -48,84 +48,69 @@ pub fn panel_routes_check_panel(image: &[u8]) -> PanelReply
     ensures { result ≡ panel_reply (checked image.now) }
 {
     match graph::check_panel(image) {
-        image::Opened::Good(_h) => PanelReply {
+        Ok(_h) => PanelReply {
             refusal: 0,
             place: 0,
         },
-        image::Opened::Refused(n) => PanelReply {
-            refusal: n,
+        Err(e) => PanelReply {
+            refusal: e.number(),
             place: 0,
         },
     }
 }
 
-fn port_reply(found: graph::Found, port: storage::Port) -> PortReply
-    ensures { result ≡ port_reply (record { found = found; port = port }) }
+// No port: what stands in the reply where none is found, or a refusal.
+fn no_port(refusal: u64) -> PortReply
+    ensures { result ≡ no_port refusal }
 {
-    let anchor = port.anchor;
-    let word = port.word;
-    match found {
-        graph::Found::Unsound(n) => PortReply {
-            refusal: n,
-            place: 0,
-            found: 0,
-            anchor,
-            word,
-        },
-        graph::Found::NoLane => PortReply {
-            refusal: 9,
-            place: 0,
-            found: 0,
-            anchor,
-            word,
-        },
-        graph::Found::NoPort => PortReply {
-            refusal: 0,
-            place: 0,
-            found: 0,
-            anchor,
-            word,
-        },
-        graph::Found::Here => PortReply {
-            refusal: 0,
-            place: 0,
-            found: 1,
-            anchor,
-            word,
-        },
+    PortReply {
+        refusal,
+        place: 0,
+        found: 0,
+        anchor: 0,
+        word: [0; 32],
+    }
+}
+
+// A port that was found.
+fn port_found(p: storage::Port) -> PortReply
+    ensures { result ≡ found_port p }
+{
+    let word = p.word;
+    PortReply {
+        refusal: 0,
+        place: 0,
+        found: 1,
+        anchor: p.anchor,
+        word,
     }
 }
 
 pub fn panel_routes_port_at_cut(image: &[u8], lane: u64, cut: u64, reverse: bool) -> PortReply
     ensures { result ≡ port_reply (port_answer image.now lane cut reverse) }
 {
-    let a = graph::port_at_cut(image, lane, cut, reverse);
-    let found = a.found;
-    let port = a.port;
-    port_reply(found, port)
+    match graph::port_at_cut(image, lane, cut, reverse) {
+        Ok(Some(p)) => port_found(p),
+        Ok(None) => no_port(0),
+        Err(e) => no_port(e.number()),
+    }
 }
 
 pub fn panel_routes_hub_bucket(image: &[u8], word: &[u8]) -> BucketReply
     ensures { result ≡ bucket_reply (bucket_answer image.now word.now) }
 {
     match graph::hub_bucket(image, word) {
-        graph::BucketAnswer::BadPanel(n) => BucketReply {
-            refusal: n,
-            place: 0,
-            lo: 0,
-            hi: 0,
-        },
-        graph::BucketAnswer::BadWord => BucketReply {
-            refusal: 10,
-            place: 0,
-            lo: 0,
-            hi: 0,
-        },
-        graph::BucketAnswer::Bucket(b) => BucketReply {
+        Ok(b) => BucketReply {
             refusal: 0,
             place: 0,
             lo: b.lo as u64,
             hi: b.hi as u64,
+        },
+        Err(e) => BucketReply {
+            refusal: e.number(),
+            place: 0,
+            lo: 0,
+            hi: 0,
         },
     }
 }
@@ -151,7 +136,7 @@ pub fn panel_routes_list(
     out: &mut [u64],
 ) -> search::ListReply
     ensures value { result ≡ list_answer image.now budget from (record { frames = frames.entry.now; slot = slot.old; out = out.old }) }
-    ensures fact { ◌≡◌ {A = ListRooms} (record { frames = frames.exit.now; slot = slot.new; out = out.new }) (list_rooms image.now budget from (record { frames = frames.entry.now; slot = slot.old; out = out.old })) }
+    ensures rooms_after { ◌≡◌ {A = ListRooms} (record { frames = frames.exit.now; slot = slot.new; out = out.new }) (list_rooms image.now budget from (record { frames = frames.entry.now; slot = slot.old; out = out.old })) }
 {
     listing::list(image, budget, from, frames, slot, out)
 }
@@ -165,7 +150,7 @@ pub fn panel_routes_search(
     kept_scores: &mut [f64],
 ) -> search::SearchReply
     ensures value { result ≡ search_answer image.now budget scores.now (record { frames = frames.entry.now; kept = kept.old; scores = kept_scores.old }) }
-    ensures fact { ◌≡◌ {A = Rooms} (record { frames = frames.exit.now; kept = kept.new; scores = kept_scores.new }) (search_rooms image.now budget scores.now (record { frames = frames.entry.now; kept = kept.old; scores = kept_scores.old })) }
+    ensures rooms_after { ◌≡◌ {A = Rooms} (record { frames = frames.exit.now; kept = kept.new; scores = kept_scores.new }) (search_rooms image.now budget scores.now (record { frames = frames.entry.now; kept = kept.old; scores = kept_scores.old })) }
 {
     searching::search(image, budget, scores, frames, kept, kept_scores)
 }
@@ -191,10 +176,15 @@ pub fn panel_routes_plain_list(image: &[u8], from: u64, out: &mut [u64]) -> engi
 pub fn panel_routes_check_letters(image: &[u8], letters: &[u8]) -> PanelReply
     ensures { result ≡ letters_reply (letters_answer image.now letters.now) }
 {
-    let r = letters::check_letters(image, letters);
-    PanelReply {
-        refusal: r.number,
-        place: r.place,
+    match letters::check_letters(image, letters) {
+        Ok(()) => PanelReply {
+            refusal: 0,
+            place: 0,
+        },
+        Err(e) => PanelReply {
+            refusal: e.number(),
+            place: 0,
+        },
     }
 }
 

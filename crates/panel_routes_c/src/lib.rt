@@ -65,7 +65,7 @@ pub extern "C" fn panel_routes_list(
     out: &mut [u64],
 ) -> search::ListReply
     ensures value { result ≡ list_answer image.now budget from (record { frames = frames.entry.now; slot = slot.old; out = out.old }) }
-    ensures fact { ◌≡◌ {A = ListRooms} (record { frames = frames.exit.now; slot = slot.new; out = out.new }) (list_rooms image.now budget from (record { frames = frames.entry.now; slot = slot.old; out = out.old })) }
+    ensures rooms_after { ◌≡◌ {A = ListRooms} (record { frames = frames.exit.now; slot = slot.new; out = out.new }) (list_rooms image.now budget from (record { frames = frames.entry.now; slot = slot.old; out = out.old })) }
 {
     panel_routes::panel_routes_list(image, budget, from, frames, slot, out)
 }
@@ -80,7 +80,7 @@ pub extern "C" fn panel_routes_search(
     kept_scores: &mut [f64],
 ) -> search::SearchReply
     ensures value { result ≡ search_answer image.now budget scores.now (record { frames = frames.entry.now; kept = kept.old; scores = kept_scores.old }) }
-    ensures fact { ◌≡◌ {A = Rooms} (record { frames = frames.exit.now; kept = kept.new; scores = kept_scores.new }) (search_rooms image.now budget scores.now (record { frames = frames.entry.now; kept = kept.old; scores = kept_scores.old })) }
+    ensures rooms_after { ◌≡◌ {A = Rooms} (record { frames = frames.exit.now; kept = kept.new; scores = kept_scores.new }) (search_rooms image.now budget scores.now (record { frames = frames.entry.now; kept = kept.old; scores = kept_scores.old })) }
 {
     panel_routes::panel_routes_search(image, budget, scores, frames, kept, kept_scores)
 }

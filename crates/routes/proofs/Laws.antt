@@ -5,16 +5,12 @@ use native.Mathlib.Numerals.{add-one}
 use mathlib.Core.Path.{◌≡◌, refl, sym, ap, ◌∙◌}
 use mathlib.Core.Bool.{Bool, true, false, not, ◌&&◌}
 use mathlib.Core.List.{List, [], ◌∷◌}
-use mathlib.Core.Logic.{◌⊎◌, inl, inr}
-use lib.Dec.{leb, ltb, eqb}
+use lib.Dec.{eqb}
 use lib.ListN.{length, drop, get_or, get_or-eq_default}
 use lib.Seq.{drop-cons}
 use Rattle.ground.specs.Lists.{all, keep}
 use Rattle.storage.specs.declared.Port.{Port}
-use Rattle.storage.specs.Records.{no_port}
-use Rattle.storage.specs.Orders.{is_equal, same_word}
-use Rattle.storage.specs.Inner.{SameUpTo}
-use Rattle.storage.proofs.OrderLaws.{word_less, word_greater, word_next, word_equal}
+use Rattle.storage.specs.Orders.{same_word}
 use Rattle.image.specs.declared.Header.{Header}
 use Rattle.image.specs.declared.Entry.{Entry}
 use Rattle.image.specs.declared.Lane.{Lane}
@@ -23,17 +19,24 @@ use Rattle.image.specs.Image.{entries, no_entry, paths_of}
 use Rattle.image.specs.Inner.{Framed, Groups}
 use Rattle.image.specs.Panel.{Panel, no_lane, panel_of, lane_at, paths_at}
 use Rattle.image.proofs.Laws.{panel_lanes, panel_entry, panel_families, family_length}
-use Rattle.graph.specs.declared.Found.TheVariants.{NoPort}
-use Rattle.graph.specs.declared.PortAnswer.{PortAnswer}
+use Rattle.std.specs.declared.option.Option.{Option}
+use Rattle.std.specs.declared.option.Option.TheVariants.{None, Some}
+use Rattle.std.specs.Option.{unwrap_or}
 use Rattle.graph.specs.Lookups.{found, ports_at}
 use Rattle.evaluate.specs.declared.Segment.{Segment}
 use Rattle.evaluate.specs.declared.Refusal.{Refusal}
 use Rattle.evaluate.specs.Refusals.{no_refusal, unless, or_else, at}
 use Rattle.evaluate.specs.Segments.{Route, entry, exit, sound_span, normalize}
+use Rattle.evaluate.proofs.Ports.{same_word_is, word_same_of}
 use Rattle.evaluate.specs.Check.{enters, leaves, match_refusal, joint_refusal, joints_refusal, normal_refusal, route_refusal, routes_refusal}
 use Rattle.words.specs.declared.Cursor.{Cursor}
-use Rattle.words.specs.Inner.{segment_of, segments_of, routes_of, Parsed, normal_of, normal_from, Reached, is_here}
+use Rattle.words.specs.Inner.{segment_of, segments_of, routes_of, Parsed, normal_of, normal_from, Reached}
 use Rattle.words.proofs.Reading.{segments_none, segments_next, routes_none, routes_next, parsed_route, parsed_next}
+use Rattle.std.proofs.Common.{nat_eq, MatchBool, ◌≢◌, lit<}
+use Rattle.std.specs.Cmp.Lexicographic.{pointwise, told_text}
+use Rattle.routes.specs.declared.RouteRefusal.{RouteRefusal}
+use Rattle.routes.specs.declared.RouteRefusal.TheVariants.{Empty, Span, Ends, NoExit, NoEntry, Words}
+use Rattle.routes.specs.Refusals.{number_of}
 
 -- ---- lanes
 
@@ -48,81 +51,66 @@ module _ (s : List ℕ) (h : Header) (lane : ℕ) (f : Framed s h) where
   lane_len_none le = rw (no_such_lane s h lane f le)
 
   module _ (cut : ℕ) (reverse : Bool) where
-    pub port_is : (l : Lane) (r : PortAnswer) → l.number ≡ lane → r ≡ found (ports_at (panel_of s) l.number cut reverse) → r ≡ found (ports_at (panel_of s) lane cut reverse)
+    pub port_is : (l : Lane) (r : Option Port) → l.number ≡ lane → r ≡ found (ports_at (panel_of s) l.number cut reverse) → r ≡ found (ports_at (panel_of s) lane cut reverse)
     port_is l r e q = q ∙ rw e
 
-    pub port_none : (q : Port) → q ≡ no_port → h.lanes ≤ lane → record { found = NoPort; port = q } ≡ found (ports_at (panel_of s) lane cut reverse)
+    pub port_none : h.lanes ≤ lane → None ≡ found (ports_at (panel_of s) lane cut reverse)
     unfolding ports_at keep
-    port_none q e le = rw (no_such_lane s h lane f le, e)
+    port_none le = rw (no_such_lane s h lane f le)
 
-pub sound_told : (s : List ℕ) (h : Header) (g : Segment) (len : ℕ) (x y z some r : Bool) → Framed s h → len ≡ (lane_at (panel_of s) g.source).len
-    → x ≡ ltb g.source h.lanes → y ≡ ltb g.start g.end → some ≡ (x && y) → z ≡ leb g.end len → r ≡ (some && z) → r ≡ sound_span (panel_of s) g
-sound_told s h g len x y z some r f l ex ey e ez er = rw (er, e, ex, ey, ez, l, panel_lanes s h f)
+pub ruleset lane_count = (panel_lanes)
 
 -- ---- words of ports
 
-pub word_other : (a b : List ℕ) (i : ℕ) → length a ≡ 32 → length b ≡ 32 → SameUpTo a b i → i < 32 → (get_or a i 0 ≡ get_or b i 0 → ⊥) → false ≡ same_word a b
-word_other a b i la lb s h n = go (sides (get_or a i 0) (get_or b i 0) n)
+pub word_is : (v w : List ℕ) (r : Bool) → r ≡ pointwise nat_eq v w → r ≡ same_word v w
+word_is v w r e = go r (told_text v w r e)
   where
-    sides : (x y : ℕ) → (x ≡ y → ⊥) → (x < y) ⊎ (y < x)
-    sides x y d = on (ltb x y) refl
+    go : (r : Bool) → MatchBool r (v ≡ w) (v ≢ w) → r ≡ same_word v w
+    go true h = sym (word_same_of v w h)
+    go false h = on (same_word v w) refl
       where
-        on : (t : Bool) → ltb x y ≡ t → (x < y) ⊎ (y < x)
-        on true e = inl (omega (arith, below e))
-          where
-            below : ltb x y ≡ true → x < y
-            below e = borrow.Author.Tests.ltb-true x y e
-        on false e = inr (omega (arith, borrow.Author.Tests.ltb-false x y e))
-
-    go : (get_or a i 0 < get_or b i 0) ⊎ (get_or b i 0 < get_or a i 0) → false ≡ same_word a b
-    go (inl l) = ap is_equal (word_less a b i la lb s h l)
-    go (inr g) = ap is_equal (word_greater a b i la lb s h g)
-
-pub word_again : (a b : List ℕ) (i : ℕ) → length a ≡ 32 → length b ≡ 32 → SameUpTo a b i → i < 32 → get_or a i 0 ≡ get_or b i 0 → SameUpTo a b (i + 1)
-word_again a b i la lb s h e = word_next a b i la lb s h (omega arith) (omega arith)
-
-pub word_same : (a b : List ℕ) (i : ℕ) → length a ≡ 32 → length b ≡ 32 → SameUpTo a b i → 32 ≤ i → true ≡ same_word a b
-word_same a b i la lb s h = ap is_equal (word_equal a b i la lb s h)
+        on : (b : Bool) → same_word v w ≡ b → false ≡ b
+        on true z = absurd (h (same_word_is v w z))
+        on false z = refl
 
 -- ---- 28, 29, 30: a joint
 
-match_28 : (l m : List Port) → is_here (found l).found ≡ false → 28 ≡ match_refusal l m
+none_some : (q : Port) → None ≡ Some q → ⊥
+none_some q e = let z : ◌≡◌ {A = ℕ} 0 1 = cc in omega arith
+
+some_is : (g q : Port) → Some g ≡ Some q → g ≡ q
+some_is g q e = ap (λ (o : Option Port). unwrap_or o g) e
+
+match_28 : (l m : List Port) → None ≡ found l → 28 ≡ match_refusal l m
 match_28 [] m e = refl
-match_28 (q ∷ qs) m e = let z : ◌≡◌ {A = ℕ} 0 1 = cc in absurd (omega arith)
+match_28 (q ∷ qs) m e = absurd (none_some q e)
 
-match_29 : (l m : List Port) → is_here (found l).found ≡ true → is_here (found m).found ≡ false → 29 ≡ match_refusal l m
-match_29 [] m e f = let z : ◌≡◌ {A = ℕ} 0 1 = cc in absurd (omega arith)
-match_29 (q ∷ qs) [] e f = refl
-match_29 (q ∷ qs) (r ∷ rs) e f = let z : ◌≡◌ {A = ℕ} 0 1 = cc in absurd (omega arith)
+match_29 : (l m : List Port) (g : Port) → Some g ≡ found l → None ≡ found m → 29 ≡ match_refusal l m
+match_29 [] m g e f = absurd (none_some g (sym e))
+match_29 (q ∷ qs) [] g e f = refl
+match_29 (q ∷ qs) (r ∷ rs) g e f = absurd (none_some r f)
 
-match_both : (l m : List Port) → is_here (found l).found ≡ true → is_here (found m).found ≡ true → match_refusal l m ≡ unless (same_word (found l).port.word (found m).port.word) 30 0
-match_both [] m e f = let z : ◌≡◌ {A = ℕ} 0 1 = cc in absurd (omega arith)
-match_both (q ∷ qs) [] e f = let z : ◌≡◌ {A = ℕ} 0 1 = cc in absurd (omega arith)
-match_both (q ∷ qs) (r ∷ rs) e f = refl
+match_both : (l m : List Port) (g c : Port) → Some g ≡ found l → Some c ≡ found m → match_refusal l m ≡ unless (same_word g.word c.word) 30 0
+match_both [] m g c e f = absurd (none_some g (sym e))
+match_both (q ∷ qs) [] g c e f = absurd (none_some c (sym f))
+match_both (q ∷ qs) (r ∷ rs) g c e f = rw (some_is g q e, some_is c r f)
 
-module _ (p : Panel) (s t : Segment) (x y : ℕ) (g c : PortAnswer) (ex : x ≡ exit s) (ey : y ≡ entry t)
-    (eg : g ≡ found (ports_at p s.source x s.reverse)) (ec : c ≡ found (ports_at p t.source y t.reverse)) (a : Bool) (ea : a ≡ is_here g.found) where
-  goes : is_here (found (ports_at p s.source (exit s) s.reverse)).found ≡ a
-  goes = rw (ea, eg, ex)
-
-  pub joint_28 : a ≡ false → 28 ≡ joint_refusal p s t
+module _ (p : Panel) (s t : Segment) (x y : ℕ) (ex : x ≡ exit s) (ey : y ≡ entry t) where
+  pub joint_28 : None ≡ found (ports_at p s.source x s.reverse) → 28 ≡ joint_refusal p s t
   unfolding joint_refusal
-  joint_28 z = match_28 (ports_at p s.source (exit s) s.reverse) (ports_at p t.source (entry t) t.reverse) (goes ∙ z)
+  joint_28 e = match_28 (ports_at p s.source (exit s) s.reverse) (ports_at p t.source (entry t) t.reverse) (rw ex at e)
 
-  module _ (za : a ≡ true) (b : Bool) (eb : b ≡ is_here c.found) where
-    comes : is_here (found (ports_at p t.source (entry t) t.reverse)).found ≡ b
-    comes = rw (eb, ec, ey)
-
-    pub joint_29 : b ≡ false → 29 ≡ joint_refusal p s t
+  module _ (g : Port) (eg : Some g ≡ found (ports_at p s.source x s.reverse)) where
+    pub joint_29 : None ≡ found (ports_at p t.source y t.reverse) → 29 ≡ joint_refusal p s t
     unfolding joint_refusal
-    joint_29 z = match_29 (ports_at p s.source (exit s) s.reverse) (ports_at p t.source (entry t) t.reverse) (goes ∙ za) (comes ∙ z)
+    joint_29 e = match_29 (ports_at p s.source (exit s) s.reverse) (ports_at p t.source (entry t) t.reverse) g (rw ex at eg) (rw ey at e)
 
-    module _ (zb : b ≡ true) (w : Bool) (ew : w ≡ same_word g.port.word c.port.word) where
+    module _ (c : Port) (ec : Some c ≡ found (ports_at p t.source y t.reverse)) (w : Bool) (ew : w ≡ pointwise nat_eq g.word c.word) where
       meet : joint_refusal p s t ≡ unless w 30 0
       unfolding joint_refusal
       meet =
-          match_both (ports_at p s.source (exit s) s.reverse) (ports_at p t.source (entry t) t.reverse) (goes ∙ za) (comes ∙ zb)
-          ∙ rw (ew, eg, ec, ex, ey)
+          match_both (ports_at p s.source (exit s) s.reverse) (ports_at p t.source (entry t) t.reverse) g c (rw ex at eg) (rw ey at ec)
+          ∙ rw (word_is g.word c.word w ew)
 
       pub joint_30 : w ≡ false → 30 ≡ joint_refusal p s t
       joint_30 z = rw (meet, z)
@@ -170,19 +158,23 @@ pub or_found : (n m : ℕ) → 0 < n → n ≡ or_else n m
 or_found zero m h = let z : ⊥ = omega arith in absurd z
 or_found (suc n) m h = refl
 
-pub or_none : (n m : ℕ) → n ≤ 0 → or_else n m ≡ m
-or_none zero m h = refl
-or_none (suc n) m h = let z : ⊥ = omega arith in absurd z
+pub some_number : (e : RouteRefusal) → 0 < number_of e
+some_number Empty = lit< tt
+some_number Span = lit< tt
+some_number Ends = lit< tt
+some_number NoExit = lit< tt
+some_number NoEntry = lit< tt
+some_number Words = lit< tt
 
 module _ {s ws : List ℕ} {first c : Cursor} (j : JointsFrom s ws first c) where
-  module _ (d : Cursor) (n : ℕ) (r : Reached ws c.at c.left d) (e : n ≡ joint_refusal (panel_of s) c.segment d.segment) where
-    pub joints_again : n ≤ 0 → JointsFrom s ws first d
+  module _ (d : Cursor) (r : Reached ws c.at c.left d) where
+    pub joints_again : 0 ≡ joint_refusal (panel_of s) c.segment d.segment → JointsFrom s ws first d
     unfolding joints_refusal normal_from
-    joints_again z = record { room = omega (arith, r.same, j.room); todo = j.todo ∙ rw (from_next ws c d r, ← e) (or_none n (joints_refusal (panel_of s) (d.segment ∷ normal_of ws d.at d.left)) z) }
+    joints_again e = record { room = omega (arith, r.same, j.room); todo = j.todo ∙ rw (from_next ws c d r, ← e) }
 
-    pub joints_found : 0 < n → n ≡ joints_refusal (panel_of s) (normal_from ws first)
+    pub joints_found : (e : RouteRefusal) → number_of e ≡ joint_refusal (panel_of s) c.segment d.segment → number_of e ≡ joints_refusal (panel_of s) (normal_from ws first)
     unfolding joints_refusal
-    joints_found z = rw (j.todo, from_next ws c d r, ← e) (or_found n (joints_refusal (panel_of s) (d.segment ∷ normal_of ws d.at d.left)) z)
+    joints_found e q = rw (j.todo, from_next ws c d r, ← q) (or_found (number_of e) (joints_refusal (panel_of s) (d.segment ∷ normal_of ws d.at d.left)) (some_number e))
 
   pub joints_ends : c.left ≤ 0 → 0 ≡ joints_refusal (panel_of s) (normal_from ws first)
   unfolding joints_refusal
@@ -246,10 +238,6 @@ pub record RoutesFrom (s : List ℕ) (h : Header) (f : Family) (ws : List ℕ) (
 pub routes_start : {s : List ℕ} {h : Header} {f : Family} {ws : List ℕ} {n : ℕ} → Parsed ws n 2 → RoutesFrom s h f ws n 2 0
 routes_start {s} {h} {f} {ws} {n} p = let e : n - 0 ≡ n = omega arith in record { few = omega arith; parsed = rw e p; todo = rw e }
 
-pub at_none : (n i : ℕ) (r : Refusal) → n ≤ 0 → at n i r ≡ r
-at_none zero i r h = refl
-at_none (suc n) i r h = let z : ⊥ = omega arith in absurd z
-
 pub at_found : (n i : ℕ) (r : Refusal) → 0 < n → record { number = n; place = i } ≡ at n i r
 at_found zero i r h = let z : ⊥ = omega arith in absurd z
 at_found (suc n) i r h = refl
@@ -258,26 +246,27 @@ module _ {s : List ℕ} {h : Header} {f : Family} {ws : List ℕ} {n place i : �
   pub routes_route : i < n → place + 1 + 4 * get_or ws place 0 ≤ length ws
   routes_route lt = parsed_route p.parsed (omega arith)
 
-  module _ (g : Groups s h f) (eq : n ≡ f.count) (lt : i < n) (target k number : ℕ) (et : target ≡ get_or (paths_of h s f.number) i 0) (ek : k ≡ get_or ws place 0)
-      (en : number ≡ route_refusal (panel_of s) target (segments_of k (drop (place + 1) ws))) where
+  module _ (g : Groups s h f) (eq : n ≡ f.count) (lt : i < n) (target k : ℕ) (et : target ≡ get_or (paths_of h s f.number) i 0) (ek : k ≡ get_or ws place 0) where
     here_at : routes_refusal (panel_of s) 0 (paths_of h s f.number) (routes_of n (drop 2 ws))
-        ≡ at number i (routes_refusal (panel_of s) (i + 1) (drop (i + 1) (paths_of h s f.number)) (routes_of (n - (i + 1)) (drop (place + 1 + 4 * k) ws)))
+        ≡ at (route_refusal (panel_of s) target (segments_of k (drop (place + 1) ws))) i (routes_refusal (panel_of s) (i + 1) (drop (i + 1) (paths_of h s f.number)) (routes_of (n - (i + 1)) (drop (place + 1 + 4 * k) ws)))
     unfolding routes_refusal
     here_at =
         let l = family_length s h f g in
         let inside : i < length (paths_of h s f.number) = omega arith in
         let pos : 0 < n - i = omega arith in
         let less : n - i - 1 ≡ n - (i + 1) = omega arith in
-        p.todo ∙ rw (drop-cons (paths_of h s f.number) i 0 inside, routes_next ws place (n - i) k pos ek, ← et, ← en, less, add-one)
+        p.todo ∙ rw (drop-cons (paths_of h s f.number) i 0 inside, routes_next ws place (n - i) k pos ek, ← et, less) (simp add-one)
 
-    pub routes_again : number ≤ 0 → RoutesFrom s h f ws n (place + 1 + 4 * k) (i + 1)
+    pub routes_again : 0 ≡ route_refusal (panel_of s) target (segments_of k (drop (place + 1) ws)) → RoutesFrom s h f ws n (place + (1 + 4 * k)) (i + 1)
     routes_again z =
         let pos : 0 < n - i = omega arith in
         let less : n - i - 1 ≡ n - (i + 1) = omega arith in
-        record { few = omega arith; parsed = rw (← less) (parsed_next p.parsed pos ek); todo = here_at ∙ at_none number i _ z }
+        let sum : place + (1 + 4 * k) ≡ place + 1 + 4 * k = omega arith in
+        rw sum (record { few = omega arith; parsed = rw (← less) (parsed_next p.parsed pos ek); todo = here_at ∙ rw (← z) })
 
-    pub routes_found : 0 < number → record { number = number; place = i } ≡ routes_refusal (panel_of s) 0 (paths_at (panel_of s) f.number) (routes_of f.count (drop 2 ws))
-    routes_found z = rw (paths_are s h f.number g.grouped.framed, ← eq, here_at) (at_found number i _ z)
+    pub routes_found : (e : RouteRefusal) → number_of e ≡ route_refusal (panel_of s) target (segments_of k (drop (place + 1) ws))
+        → record { number = number_of e; place = i } ≡ routes_refusal (panel_of s) 0 (paths_at (panel_of s) f.number) (routes_of f.count (drop 2 ws))
+    routes_found e z = rw (paths_are s h f.number g.grouped.framed, ← eq, here_at, ← z) (at_found (number_of e) i _ (some_number e))
 
   pub routes_ends : Groups s h f → n ≡ f.count → n ≤ i → record { number = 0; place = 0 } ≡ routes_refusal (panel_of s) 0 (paths_at (panel_of s) f.number) (routes_of f.count (drop 2 ws))
   unfolding routes_refusal
@@ -288,3 +277,17 @@ module _ {s : List ℕ} {h : Header} {f : Family} {ws : List ℕ} {n place i : �
       none : (i : ℕ) (l : List ℕ) → no_refusal ≡ routes_refusal (panel_of s) i l []
       none i [] = refl
       none i (t ∷ l) = refl
+
+pub ruleset port_steps = (port_is, port_none)
+
+pub ruleset leaving_steps = (ending_start, ending_again, ending_ends)
+
+pub ruleset joint_steps = (joint_28, joint_29, joint_30, joint_0)
+
+pub ruleset joints_steps = (joints_start, joints_again, joints_found, joints_ends)
+
+pub ruleset normal_steps = (normal_enters, normal_leaves, normal_joints)
+
+pub ruleset route_steps = (route_25, route_26, route_rest)
+
+pub ruleset routes_steps = (routes_start, routes_route, routes_again, routes_found, routes_ends)

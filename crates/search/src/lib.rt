@@ -1,10 +1,12 @@
 // The budgeted walk over donor switches (search.rs): what it is given, and what it answers.
-
-// The budgets: four whole numbers and the tie width.
 #![tactic(auto)]
 
+ghost use Rattle.std.specs.Prelude.{◌≡◌};
+ghost use Rattle.search.specs.Counters.{status_number};
+
+// The budgets: four whole numbers and the tie width.
 #[repr(C)]
-#[derive(Clone, Copy)]
+#[derive(Clone, Copy, PartialEq, Debug)]
 pub struct SearchBudget {
     pub max_work: u64,
     pub max_evaluations: u64,
@@ -14,7 +16,7 @@ pub struct SearchBudget {
 }
 
 // Which budget stopped the walk, or none did.
-#[derive(Clone, Copy)]
+#[derive(Clone, Copy, PartialEq, Eq, Debug)]
 pub enum Stop {
     Exhausted,
     Work,
@@ -23,7 +25,7 @@ pub enum Stop {
 }
 
 // The five statuses.
-#[derive(Clone, Copy)]
+#[derive(Clone, Copy, PartialEq, Eq, Debug)]
 pub enum Status {
     Certified,
     SupportIncomplete,
@@ -32,8 +34,23 @@ pub enum Status {
     FrontierExhausted,
 }
 
+impl Status {
+    // Its number in the answers.
+    pub fn number(self) -> u64
+        ensures { result ≡ status_number self }
+    {
+        match self {
+            Status::Certified => 1,
+            Status::SupportIncomplete => 2,
+            Status::WorkExhausted => 3,
+            Status::EvaluationExhausted => 4,
+            Status::FrontierExhausted => 5,
+        }
+    }
+}
+
 // The nine counters.
-#[derive(Clone, Copy)]
+#[derive(Clone, Copy, PartialEq, Eq, Debug)]
 pub struct Tally {
     pub work: u64,
     pub evaluations: u64,
@@ -48,7 +65,7 @@ pub struct Tally {
 
 // What the search answers.
 #[repr(C)]
-#[derive(Clone, Copy)]
+#[derive(Clone, Copy, PartialEq, Eq, Debug)]
 pub struct SearchReply {
     pub refusal: u64,
     pub place: u64,
@@ -70,7 +87,7 @@ pub struct SearchReply {
 
 // What the listing answers.
 #[repr(C)]
-#[derive(Clone, Copy)]
+#[derive(Clone, Copy, PartialEq, Eq, Debug)]
 pub struct ListReply {
     pub refusal: u64,
     pub place: u64,

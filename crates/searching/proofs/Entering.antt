@@ -1,25 +1,21 @@
 -- One evaluation, from the words in the spare to what is kept and counted.
-use Prim.Native.Nat.{ℕ, suc, ◌+◌, ◌-◌, ◌*◌, ◌≤◌, ◌<◌, max}
-use native.Mathlib.Nat.{sub-zero, add-mul, one-mul}
-use native.Mathlib.Numerals.{add-one}
+use Prim.Native.Nat.{ℕ, suc, ◌+◌, ◌-◌, ◌*◌, ◌≤◌}
+use native.Mathlib.Nat.{add-mul, one-mul}
 use native.Mathlib.Omega.{arith}
 use mathlib.Core.Path.{◌≡◌, refl, sym, ap, ◌∙◌}
-use mathlib.Core.Bool.{Bool, true, false}
+use mathlib.Core.Bool.{true}
 use mathlib.Core.List.{List, [], ◌∷◌, map}
-use lib.Dec.{ltb}
-use lib.ListN.{length, take, drop, get_or, length-drop, length-map}
-use lib.Seq.{take_at, length-take-le}
-use lib.Ieee.{Float, nan}
-use lib.Ieee.Scale.{finite}
-use borrow.Author.Tests.{lt-ltb, le-ltb}
+use lib.ListN.{length, take, drop, length-map}
+use lib.Seq.{take_at}
+use lib.Ieee.{Float}
 use borrow.Rule.Slice.PartMut.{put_mid, mid_of}
-use Rattle.ground.specs.Lists.{one_more_if}
 use Rattle.image.specs.declared.Header.{Header}
 use Rattle.image.specs.declared.Family.{Family}
 use Rattle.image.specs.Inner.{Groups}
 use Rattle.image.specs.Panel.{Panel, panel_of, paths_at}
 use Rattle.image.proofs.Laws.{family_length}
 use Rattle.panel.specs.Inner.{Accepted}
+use Rattle.std.specs.declared.option.Option.{Option}
 use Rattle.evaluate.specs.Segments.{Assignment, native_of, whole, flat}
 use Rattle.evaluate.specs.Words.{got, encode}
 use Rattle.evaluate.proofs.RoundTrips.{decode_encode}
@@ -35,36 +31,12 @@ use Rattle.kept.specs.Inner.{Tidy, Ready}
 use Rattle.kept.proofs.Spare.{written, written_tidy}
 use Rattle.kept.proofs.Lent.{lent_keeps, lent_left}
 use Rattle.writer.specs.Inner.{Written}
-use Rattle.searching.specs.declared.Counted.{Counted}
 use Rattle.searching.specs.declared.Account.{Account}
-use Rattle.searching.specs.Inner.{score_refusal, marked_with, Marked, Settled, Entered}
+use Rattle.searching.specs.Inner.{marked_with, Marked, Settled, Entered}
 
 -- ---- the score
 
-pub score_missing : (xs : List Float) (n : ℕ) → length xs ≤ n → 14 ≡ score_refusal xs n
-unfolding score_refusal
-score_missing xs n h = rw (le-ltb n (length xs) h)
-
-pub score_unfit : (xs : List Float) (n : ℕ) (t : Bool) → n < length xs → t ≡ finite (get_or xs n nan) → t ≡ false → 15 ≡ score_refusal xs n
-unfolding score_refusal
-score_unfit xs n t h e f = rw (lt-ltb n (length xs) h, ← e, f)
-
-pub score_there : (xs : List Float) (n : ℕ) (t : Bool) → n < length xs → t ≡ finite (get_or xs n nan) → t ≡ true → 0 ≡ score_refusal xs n
-unfolding score_refusal
-score_there xs n t h e f = rw (lt-ltb n (length xs) h, ← e, f)
-
 -- ---- the counters
-
-pub one_more : (t : Bool) (n : ℕ) → t ≡ true → n + 1 ≡ one_more_if t n
-one_more t n e = rw (e, add-one)
-
-pub one_none : (t : Bool) (n : ℕ) → t ≡ false → n ≡ one_more_if t n
-one_none t n e = rw e
-
-pub counted_told : (c : Counted) (m : Marks) (x y z s : ℕ) → x ≡ one_more_if (ltb 0 m.switches) c.non_native → y ≡ one_more_if m.lanes c.mixed → z ≡ one_more_if m.identities c.mixed_identity
-    → s ≡ max c.switches m.switches
-    → ◌≡◌ {A = Counted} (record { evaluations = c.evaluations + 1; non_native = x; mixed = y; mixed_identity = z; switches = s }) (marked_with c m)
-counted_told c m x y z s ex ey ez es = λ i. record { evaluations = c.evaluations + 1; non_native = ex i; mixed = ey i; mixed_identity = ez i; switches = es i }
 
 -- ---- the words
 
@@ -78,13 +50,13 @@ encoded : (a : Assignment) → assignment_of (encode a) ≡ a
 encoded a = assignment_is (sym (encode_formed a).said ∙ decode_encode a)
 
 module _ (a : Assignment) {xs ys : List ℕ} {n : ℕ} (w : Written (encode a) xs ys n) where
-  words_are : take (n - 0) (drop 0 ys) ≡ encode a
-  words_are = rw (sub-zero, w.room) (take_at (encode a) (drop (length (encode a)) xs) n (sym w.count))
+  words_are : take n ys ≡ encode a
+  words_are = rw w.room (take_at (encode a) (drop (length (encode a)) xs) n (sym w.count))
 
-  pub words_formed : Formed (take (n - 0) (drop 0 ys))
+  pub words_formed : Formed (take n ys)
   words_formed = rw words_are (encode_formed a)
 
-  pub words_marked : (p : Panel) (r : Marks) → r ≡ marks_of p (assignment_of (take (n - 0) (drop 0 ys))) → Marked p a xs ys r
+  pub words_marked : (p : Panel) (r : Marks) → r ≡ marks_of p (assignment_of (take n ys)) → Marked p a xs ys r
   words_marked p r e = record { room = w.room; marks = e ∙ ap (marks_of p) (ap assignment_of words_are ∙ encoded a) }
 
 pieces : (p : Panel) (l : List ℕ) → length (flat (map (whole p) l)) ≡ length l
@@ -101,16 +73,9 @@ native_room s h f n acc g l =
 
 -- ---- the spare
 
-module _ (b : SearchBudget) (v : ℕ) {held : Holding} {xs : List ℕ} {ss : List Float} (a : Assignment) (h : Ready v b.max_optima held xs ss) (l : length (encode a) ≤ v) where
+module _ (b : SearchBudget) (v : ℕ) {held : Option Holding} {xs : List ℕ} {ss : List Float} (a : Assignment) (h : Ready v b.max_optima held xs ss) (l : length (encode a) ≤ v) where
   room : (b.max_optima + 1) * v + v ≤ length xs
   room = rw (add-mul, one-mul) h.tidy.longx
-
-  pub spare_long : length (encode a) ≤ length (mid_of ((b.max_optima + 1) * v) (length xs - (b.max_optima + 1) * v) xs)
-  spare_long =
-      let r = room in
-      let e : length (take (length xs - (b.max_optima + 1) * v) (drop ((b.max_optima + 1) * v) xs)) ≡ length xs - (b.max_optima + 1) * v =
-      length-take-le (length xs - (b.max_optima + 1) * v) (drop ((b.max_optima + 1) * v) xs) (rw length-drop (omega arith)) in
-      rw e (omega arith)
 
   module _ (p : Panel) {ys : List ℕ} {m : Marks} (k : Marked p a (mid_of ((b.max_optima + 1) * v) (length xs - (b.max_optima + 1) * v) xs) ys m) where
     pub spare_tidy : Tidy v b.max_optima held (put_mid ((b.max_optima + 1) * v) (length xs - (b.max_optima + 1) * v) xs ys) ss
@@ -118,21 +83,21 @@ module _ (b : SearchBudget) (v : ℕ) {held : Holding} {xs : List ℕ} {ss : Lis
         let r = room in
         rw (written v b.max_optima (length xs - (b.max_optima + 1) * v) xs (encode a) ys h.spare l (omega arith) (omega arith) k.room) (written_tidy (encode a) h l)
 
-module _ (p : Panel) (b : SearchBudget) (v : ℕ) (scores : List Float) (a : Assignment) {from r : Account} {xs ys zs : List ℕ} {ss ts : List Float} {m : Marks}
+module _ (p : Panel) (b : SearchBudget) (v : ℕ) (score : Float) (a : Assignment) {from r : Account} {xs ys zs : List ℕ} {ss ts : List Float} {m : Marks}
     (h : Ready v b.max_optima from.held xs ss) (l : length (encode a) ≤ v)
     (k : Marked p a (mid_of ((b.max_optima + 1) * v) (length xs - (b.max_optima + 1) * v) xs) ys m)
-    (s : Settled b v m (get_or scores from.counted.evaluations nan) from (put_mid ((b.max_optima + 1) * v) (length xs - (b.max_optima + 1) * v) xs ys) ss zs ts r) where
+    (s : Settled b v m score from (put_mid ((b.max_optima + 1) * v) (length xs - (b.max_optima + 1) * v) xs ys) ss zs ts r) where
   wide : v ≤ length xs - (b.max_optima + 1) * v
   wide = let q = room b v a h l in omega arith
 
   all : (b.max_optima + 1) * v + (length xs - (b.max_optima + 1) * v) ≤ length xs
   all = let q = room b v a h l in omega arith
 
-  pub entered : Entered p b v scores a from xs ss zs ts r
+  pub entered : Entered p b v score a from xs ss zs ts r
   unfolding marks_of
   entered =
       record {
-        keeps = λ t e. lent_keeps (length xs - (b.max_optima + 1) * v) e wide all a l k.room s.recorded;
+        keeps = λ t e. rw s.holds (lent_keeps (length xs - (b.max_optima + 1) * v) e wide all a l k.room s.recorded);
         left = λ t e. lent_left (length xs - (b.max_optima + 1) * v) e wide all a l k.room s.recorded;
         counted = s.counted ∙ ap (marked_with from.counted) k.marks;
       }

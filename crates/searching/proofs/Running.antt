@@ -1,5 +1,5 @@
 -- The search under way: from one evaluation to the next, and its ends.
-use Prim.Native.Nat.{ℕ, ◌+◌, ◌-◌, ◌*◌, ◌≤◌, ◌<◌}
+use Prim.Native.Nat.{ℕ, ◌+◌, ◌-◌, ◌≤◌, ◌<◌}
 use native.Mathlib.Omega.{arith}
 use mathlib.Core.Path.{◌≡◌, refl, sym, ap, subst, ◌∙◌}
 use mathlib.Core.Bool.{Bool, true, false}
@@ -13,61 +13,62 @@ use Rattle.ground.specs.Lists.{pick, one_more_if}
 use Rattle.image.specs.declared.Header.{Header}
 use Rattle.image.specs.Panel.{Panel, panel_of}
 use Rattle.evaluate.specs.declared.Segment.{Segment}
+use Rattle.std.specs.declared.result.Result.TheVariants.{Ok, Err}
 use Rattle.evaluate.specs.declared.Refusal.{Refusal}
+use Rattle.evaluate.specs.Refusals.{no_refusal, at}
 use Rattle.evaluate.specs.Segments.{Assignment}
-use Rattle.evaluate.specs.Words.{encode}
-use Rattle.evaluate.specs.Properties.{Each}
 use Rattle.search.specs.declared.SearchBudget.{SearchBudget}
 use Rattle.search.specs.declared.Stop.{Stop}
 use Rattle.search.specs.Run.{Walked}
-use Rattle.search.specs.Rooms.{frame_width}
 use Rattle.search.specs.Counters.{has_switch, mixes_lanes, mixes_identities}
 use Rattle.search.specs.Search.{evaluation_refusal, fresh}
-use Rattle.kept.specs.Inner.{Ready, Left}
-use Rattle.kept.proofs.Rooms.{left_none, left_on}
+use Rattle.kept.specs.Inner.{Left}
+use Rattle.kept.proofs.Rooms.{left_on}
 use Rattle.frames.specs.Inner.{frame_of, stack_of}
 use Rattle.walks.specs.declared.Standing.{Standing}
 use Rattle.walks.specs.declared.Halt.TheVariants.{Stopped, Due}
 use Rattle.walks.specs.declared.Pause.{Pause}
 use Rattle.walks.specs.Inner.{walk_of, to_go, before, ending_of, assigned, halted_as, Walking, Paused}
 use Rattle.walks.specs.Inner.{Kept as Room}
+use Rattle.searching.specs.declared.ScoreRefusal.{ScoreRefusal}
+use Rattle.searching.specs.declared.ScoreRefusal.TheVariants.{Missing, Unfit}
+use Rattle.searching.specs.declared.Unscored.{Unscored}
 use Rattle.searching.specs.declared.Counted.{Counted}
 use Rattle.searching.specs.declared.Account.{Account}
-use Rattle.searching.specs.Inner.{score_refusal, outcome_of, refusal_of, scored_by, kept_with, Few, Entered, Fitting, Onward, Ended}
+use Rattle.searching.specs.Inner.{number_of, as_refusal, score_refusal, score_refused, outcome_of, refusal_of, scored_by, kept_with, Entered, Onward, Ended}
 use Rattle.searching.proofs.Rest.{outcome_one, refusal_one, refusal_unfit, refusal_none, outcome_end, refusal_end}
 
 -- ---- the score
 
 -- what the score's refusal tells
-pub data Scored (xs : List Float) (n : ℕ) : ℕ → Type 0 where
-  there : n < length xs → finite (get_or xs n nan) ≡ true → Scored xs n 0
-  unfit : n < length xs → finite (get_or xs n nan) ≡ false → Scored xs n 15
-  missing : length xs ≤ n → Scored xs n 14
+pub data Scored (xs : List Float) (n : ℕ) : Refusal → Type 0 where
+  there : n < length xs → finite (get_or xs n nan) ≡ true → Scored xs n no_refusal
+  unfit : n < length xs → finite (get_or xs n nan) ≡ false → Scored xs n (record { number = 15; place = n + 1 })
+  missing : length xs ≤ n → Scored xs n (record { number = 14; place = n + 1 })
 
-scored : (xs : List Float) (n : ℕ) → Scored xs n (score_refusal xs n)
+scored : (xs : List Float) (n : ℕ) → Scored xs n (score_refused xs n)
 unfolding score_refusal
 scored xs n = go (ltb n (length xs)) refl (finite (get_or xs n nan)) refl
   where
-    go : (t : Bool) → ltb n (length xs) ≡ t → (u : Bool) → finite (get_or xs n nan) ≡ u → Scored xs n (pick t (pick u 0 15) 14)
+    go : (t : Bool) → ltb n (length xs) ≡ t → (u : Bool) → finite (get_or xs n nan) ≡ u → Scored xs n (at (pick t (pick u 0 15) 14) (n + 1) no_refusal)
     go true e true f = there (ltb-true n (length xs) e) f
     go true e false f = unfit (ltb-true n (length xs) e) f
     go false e u f = missing (ltb-false n (length xs) e)
 
-pub score_listed : (xs : List Float) (n : ℕ) → score_refusal xs n ≡ 0 → n < length xs
-score_listed xs n e = go (score_refusal xs n) (scored xs n) e
+pub score_there : (xs : List Float) (n : ℕ) → no_refusal ≡ score_refused xs n → (n < length xs) × (finite (get_or xs n nan) ≡ true)
+score_there xs n e = go (score_refused xs n) (scored xs n) (ap (λ (q : Refusal). q.number) e)
   where
-    go : (k : ℕ) → Scored xs n k → k ≡ 0 → n < length xs
-    go _ (there l f) z = l
-    go _ (unfit l f) z = l
-    go _ (missing l) z = absurd (omega arith)
-
-pub score_finite : (xs : List Float) (n : ℕ) → score_refusal xs n ≡ 0 → finite (get_or xs n nan) ≡ true
-score_finite xs n e = go (score_refusal xs n) (scored xs n) e
-  where
-    go : (k : ℕ) → Scored xs n k → k ≡ 0 → finite (get_or xs n nan) ≡ true
-    go _ (there l f) z = f
+    go : (q : Refusal) → Scored xs n q → 0 ≡ q.number → (n < length xs) × (finite (get_or xs n nan) ≡ true)
+    go _ (there l f) z = (l, f)
     go _ (unfit l f) z = absurd (omega arith)
     go _ (missing l) z = absurd (omega arith)
+
+pub numbered : (e : Unscored) → 0 < (as_refusal e).number
+numbered e = go e.refusal
+  where
+    go : (r : ScoreRefusal) → 0 < number_of r
+    go Missing = omega arith
+    go Unfit = omega arith
 
 -- ---- one evaluation further
 
@@ -77,19 +78,20 @@ more_if false m n h = omega arith
 
 module _ (p : Panel) (b : SearchBudget) (v : ℕ) (xs : List Float) (a : Assignment) (r : Walked) {from : Account} {ks : List ℕ} {ss : List Float} (o : Onward p b v xs (before a r) from ks ss) where
   -- its score has a refusal: that is the search's
-  pub onward_refused : (k : ℕ) → k ≡ score_refusal xs from.counted.evaluations → 0 < k
-      → ◌≡◌ {A = Refusal} (record { number = k; place = from.counted.evaluations + 1 }) (evaluation_refusal p b xs fresh)
-  onward_refused k e z = go (score_refusal xs from.counted.evaluations) (scored xs from.counted.evaluations) e
+  pub onward_refused : (e : Unscored) → as_refusal e ≡ score_refused xs from.counted.evaluations → as_refusal e ≡ evaluation_refusal p b xs fresh
+  onward_refused e k = go (score_refused xs from.counted.evaluations) (scored xs from.counted.evaluations) k
     where
-      go : (j : ℕ) → Scored xs from.counted.evaluations j → k ≡ j → ◌≡◌ {A = Refusal} (record { number = k; place = from.counted.evaluations + 1 }) (evaluation_refusal p b xs fresh)
-      go _ (there l f) q = absurd (omega arith)
-      go _ (unfit l f) q = rw q (sym (refusal_unfit p b xs from.counted o.kept a r l f) ∙ o.refused)
-      go _ (missing l) q = rw q (sym (refusal_none xs from.counted.evaluations a r l) ∙ o.refused)
+      go : (q : Refusal) → Scored xs from.counted.evaluations q → as_refusal e ≡ q → as_refusal e ≡ evaluation_refusal p b xs fresh
+      go _ (there l f) k = absurd (let z = ap (λ (q : Refusal). q.number) k in let y = numbered e in omega arith)
+      go _ (unfit l f) k = k ∙ sym (refusal_unfit p b xs from.counted o.kept a r l f) ∙ o.refused
+      go _ (missing l) k = k ∙ sym (refusal_none xs from.counted.evaluations a r l) ∙ o.refused
 
-  pub onward_one : {acc : Account} {ls : List ℕ} {ts : List Float} → score_refusal xs from.counted.evaluations ≡ 0 → Entered p b v xs a from ks ss ls ts acc → Onward p b v xs r acc ls ts
-  onward_one e n =
-      let l = score_listed xs from.counted.evaluations e in
-      let f = score_finite xs from.counted.evaluations e in
+  pub onward_one : {score : Float} {acc : Account} {ls : List ℕ} {ts : List Float} → no_refusal ≡ score_refused xs from.counted.evaluations → score ≡ get_or xs from.counted.evaluations nan
+      → Entered p b v score a from ks ss ls ts acc → Onward p b v xs r acc ls ts
+  onward_one {acc = acc} {ls = ls} {ts = ts} e q m =
+      let l = (score_there xs from.counted.evaluations e).0 in
+      let f = (score_there xs from.counted.evaluations e).1 in
+      let n = subst (λ (x : Float). Entered p b v x a from ks ss ls ts acc) q m in
       record {
         kept = kept_with b o.kept (scored_by xs from.counted.evaluations a);
         keeps = n.keeps o.kept o.keeps;
@@ -110,21 +112,8 @@ pub record Under (s : List ℕ) (h : Header) (b : SearchBudget) (v : ℕ) (xs : 
   pub left : Left v b.max_optima ks ss ks' ss'
   pub frames : Room b fs fs'
 
-pub under_start : {s : List ℕ} {h : Header} {b : SearchBudget} {v : ℕ} {xs : List Float} {fs ks : List ℕ} {ss : List Float} {at : Standing} {account : Account}
-    → Onward (panel_of s) b v xs (to_go (panel_of s) b at.tally fs at.depth) account ks ss → Walking s h b fs at.tally at.depth at.start at.clear → Under s h b v xs fs ks ss fs ks ss at account
-under_start {s} {h} {b} {v} {xs} {fs} {ks} {ss} o w = record { onward = o; walking = w; left = left_none ks ss; frames = record { long = refl; rest = refl } }
-
 pub room_on : {b : SearchBudget} {xs ys zs : List ℕ} → Room b xs ys → Room b ys zs → Room b xs zs
 room_on k l = record { long = l.long ∙ k.long; rest = l.rest ∙ k.rest }
-
-module _ {s : List ℕ} {h : Header} {b : SearchBudget} {v : ℕ} {xs : List Float} {fs ks : List ℕ} {ss : List Float} {fs' ks' : List ℕ} {ss' : List Float} {at : Standing} {account : Account}
-    (u : Under s h b v xs fs ks ss fs' ks' ss' at account) where
-  -- there is a score
-  pub due_listed : (k : ℕ) → k ≡ score_refusal xs account.counted.evaluations → k ≤ 0 → account.counted.evaluations < length xs
-  due_listed k e z = let y : k ≡ 0 = omega arith in score_listed xs account.counted.evaluations (sym e ∙ y)
-
-  pub due_few : account.counted.evaluations < 0xffff_ffff_ffff_ffff → (k : ℕ) → k ≡ score_refusal xs account.counted.evaluations → k ≤ 0 → Few account.counted
-  due_few m k e z = record { small = m; switched = u.onward.switched; lanes = u.onward.lanes; identities = u.onward.identities }
 
 module _ {s : List ℕ} {h : Header} {b : SearchBudget} {v : ℕ} {xs : List Float} {fs ks : List ℕ} {ss : List Float} {fs' ks' : List ℕ} {ss' : List Float} {at : Standing} {account : Account}
     (u : Under s h b v xs fs ks ss fs' ks' ss' at account) {ys : List ℕ} {q : Pause} (g : Paused s h b fs' ys at q) where
@@ -132,13 +121,13 @@ module _ {s : List ℕ} {h : Header} {b : SearchBudget} {v : ℕ} {xs : List Flo
     stopped_as : to_go (panel_of s) b at.tally fs' at.depth ≡ record { ending = ending_of e (frame_of ys q.at.depth).place; walk = walk_of q.at.tally (stack_of ys q.at.depth) }
     stopped_as = g.outcome ∙ ap (halted_as (panel_of s) b ys q.at) stops
 
-    pub ended_stop : Ended (panel_of s) b v xs fs ks ss ys ks' ss' (record { refusal = record { number = 0; place = 0 }; stop = e; at = q.at; account = account })
+    pub ended_stop : Ended (panel_of s) b v xs fs ks ss ys ks' ss' (Ok (record { stop = e; at = q.at; account = account }))
     ended_stop =
         let o = u.onward in
         record {
           refused = sym (refusal_end (panel_of s) b xs account.counted o.kept (ending_of e (frame_of ys q.at.depth).place) q.at.tally (stack_of ys q.at.depth))
               ∙ ap (refusal_of xs account.counted.evaluations) (sym stopped_as) ∙ o.refused;
-          told = λ z.
+          told =
               record {
                 kept = o.kept;
                 keeps = o.keeps;
@@ -158,37 +147,20 @@ module _ {s : List ℕ} {h : Header} {b : SearchBudget} {v : ℕ} {xs : List Flo
     due_onward : Onward (panel_of s) b v xs (before (assigned q.at.tally.families ys (q.at.depth - 1) d) (to_go (panel_of s) b q.at.tally ys q.at.depth)) account ks' ss'
     due_onward = subst (λ (r : Walked). Onward (panel_of s) b v xs r account ks' ss') due_as u.onward
 
-    pub due_ready : Ready v b.max_optima account.held ks' ss'
-    due_ready = u.onward.keeps.ready
-
-    pub due_fits : length (encode (assigned q.at.tally.families ys (q.at.depth - 1) d)) ≤ v
-    due_fits = (subst (λ (r : Walked). Each (Fitting v) r.walk.out) due_as u.onward.fits).0
-
-    pub due_some : 0 < q.at.depth
-    due_some = (g.again d due).some
-
-    pub due_room : q.at.depth * frame_width ≤ length ys
-    due_room = let l = g.deep in let k = (g.again d due).held.room in omega arith
-
-    pub due_less : b.max_work - q.at.tally.work < b.max_work - at.tally.work
-    due_less = let m = g.more d due in let w = (g.again d due).held.worked in omega arith
-
-    pub ended_refused : (k : ℕ) → k ≡ score_refusal xs account.counted.evaluations → 0 < k → (e : Stop) (n : ℕ) → n ≡ account.counted.evaluations + 1
-        → Ended (panel_of s) b v xs fs ks ss ys ks' ss' (record { refusal = record { number = k; place = n }; stop = e; at = q.at; account = account })
-    ended_refused k j z e n i =
+    pub ended_refused : (e : Unscored) → as_refusal e ≡ score_refused xs account.counted.evaluations → Ended (panel_of s) b v xs fs ks ss ys ks' ss' (Err e)
+    ended_refused e k =
         record {
-          refused = ap (λ (m : ℕ). record { number = k; place = m }) i ∙ onward_refused (panel_of s) b v xs (assigned q.at.tally.families ys (q.at.depth - 1) d) (to_go (panel_of s) b q.at.tally ys q.at.depth) due_onward k j z;
-          told = λ y. absurd (omega arith);
+          refused = onward_refused (panel_of s) b v xs (assigned q.at.tally.families ys (q.at.depth - 1) d) (to_go (panel_of s) b q.at.tally ys q.at.depth) due_onward e k;
+          told = tt;
           left = u.left;
           frames = room_on u.frames g.kept;
         }
 
-    pub under_next : {acc : Account} {ls : List ℕ} {ts : List Float} (k : ℕ) → k ≡ score_refusal xs account.counted.evaluations → k ≤ 0
-        → Entered (panel_of s) b v xs (assigned q.at.tally.families ys (q.at.depth - 1) d) account ks' ss' ls ts acc → Under s h b v xs fs ks ss ys ls ts q.at acc
-    under_next k j z n =
-        let y : k ≡ 0 = omega arith in
+    pub under_next : {score : Float} {acc : Account} {ls : List ℕ} {ts : List Float} → no_refusal ≡ score_refused xs account.counted.evaluations → score ≡ get_or xs account.counted.evaluations nan
+        → Entered (panel_of s) b v score (assigned q.at.tally.families ys (q.at.depth - 1) d) account ks' ss' ls ts acc → Under s h b v xs fs ks ss ys ls ts q.at acc
+    under_next k e n =
         record {
-          onward = onward_one (panel_of s) b v xs (assigned q.at.tally.families ys (q.at.depth - 1) d) (to_go (panel_of s) b q.at.tally ys q.at.depth) due_onward (sym j ∙ y) n;
+          onward = onward_one (panel_of s) b v xs (assigned q.at.tally.families ys (q.at.depth - 1) d) (to_go (panel_of s) b q.at.tally ys q.at.depth) due_onward k e n;
           walking = g.again d due;
           left = left_on u.left (n.left u.onward.kept u.onward.keeps);
           frames = room_on u.frames g.kept;

@@ -4,8 +4,8 @@ use native.Mathlib.Omega.{arith}
 use mathlib.Core.Path.{◌≡◌, refl, sym, ap, subst, ◌∙◌}
 use mathlib.Core.Bool.{Bool, true}
 use mathlib.Core.List.{List, [], ◌++◌}
-use lib.ListN.{length, take}
-use lib.Ieee.{Float}
+use lib.ListN.{length, take, get_or}
+use lib.Ieee.{Float, nan}
 use Rattle.ground.specs.Lists.{sum}
 use Rattle.image.specs.declared.Header.{Header}
 use Rattle.image.specs.declared.Family.{Family}
@@ -13,7 +13,9 @@ use Rattle.image.specs.Image.{path_counts}
 use Rattle.image.specs.Panel.{Panel, panel_of}
 use Rattle.image.proofs.Laws.{panel_families, families_length}
 use Rattle.panel.specs.Inner.{Accepted}
-use Rattle.evaluate.specs.declared.Refusal.{Refusal}
+use Rattle.std.specs.declared.result.Result.{Result}
+use Rattle.std.specs.declared.result.Result.TheVariants.{Ok, Err}
+use Rattle.evaluate.specs.Refusals.{no_refusal}
 use Rattle.evaluate.specs.Segments.{native_of}
 use Rattle.evaluate.specs.Words.{encode}
 use Rattle.search.specs.declared.SearchBudget.{SearchBudget}
@@ -27,15 +29,16 @@ use Rattle.search.specs.Rooms.{stack_words, pending_words}
 use Rattle.frames.specs.Inner.{frame_of, stack_of, put}
 use Rattle.frames.proofs.Laws.{stack_none}
 use Rattle.walks.specs.Inner.{before, walk_of, ending_of, used_by, seed_walk, to_go, root_of, Walking}
+use Rattle.searching.specs.declared.Unscored.{Unscored}
 use Rattle.searching.specs.declared.Account.{Account}
 use Rattle.searching.specs.declared.Seeded.{Seeded}
 use Rattle.searching.specs.declared.Found.{Found}
-use Rattle.searching.specs.Inner.{score_refusal, Few, Entered, Onward, Ended, Sown, outcome_of, refusal_of, seed_tally, standing_with, Framable}
+use Rattle.searching.specs.Inner.{as_refusal, score_refused, Entered, Onward, Ended, Sown, outcome_of, refusal_of, seed_tally, standing_with, Framable}
 use Rattle.searching.proofs.Rest.{outcome_end, refusal_end}
 use Rattle.walks.specs.declared.Standing.{Standing}
 use Rattle.walks.proofs.Seeds.{seed_one, seed_evaluation, seed_work, seed_none, seed_all}
 use Rattle.walks.proofs.Laws.{begun_walking, begun_to_go, begun_kept}
-use Rattle.searching.proofs.Running.{score_listed, onward_refused, onward_one, room_on}
+use Rattle.searching.proofs.Running.{onward_refused, onward_one, room_on}
 
 pub record Sowing (s : List ℕ) (h : Header) (b : SearchBudget) (v : ℕ) (xs : List Float) (ks : List ℕ) (ss : List Float) (ks' : List ℕ) (ss' : List Float) (n start : ℕ) (account : Account) : Type 0 where
   pub onward : Onward (panel_of s) b v xs (walk_from (panel_of s) b [] (seed_walk n)) account ks' ss'
@@ -51,21 +54,6 @@ sowing_start {s} {h} {b} {v} {xs} {ks} {ss} o = record { onward = o; left = left
 
 module _ {s : List ℕ} {h : Header} {b : SearchBudget} {v : ℕ} {xs : List Float} {ks : List ℕ} {ss : List Float} {ks' : List ℕ} {ss' : List Float} {n start : ℕ} {account : Account} (acc : Accepted s h)
     (u : Sowing s h b v xs ks ss ks' ss' n start account) where
-  pub sown-all : h.families ≤ n → Sown (panel_of s) h b v xs ks ss ks' ss' (record { refusal = record { number = 0; place = 0 }; natives = n; account = account })
-  sown-all l = record { refused = λ z. absurd (omega arith); onward = λ z. u.onward; few = u.few; over = λ z f e. absurd (omega arith); worked = u.worked; left = u.left }
-
-  pub sown_work : b.max_work ≤ n → Sown (panel_of s) h b v xs ks ss ks' ss' (record { refusal = record { number = 0; place = 0 }; natives = n; account = account })
-  sown_work l = record { refused = λ z. absurd (omega arith); onward = λ z. u.onward; few = u.few; over = λ z f e. l; worked = u.worked; left = u.left }
-
-  pub sown_evaluation : b.max_evaluations ≤ n → Sown (panel_of s) h b v xs ks ss ks' ss' (record { refusal = record { number = 0; place = 0 }; natives = n; account = account })
-  sown_evaluation l = record { refused = λ z. absurd (omega arith); onward = λ z. u.onward; few = u.few; over = λ z f e. absurd (omega arith); worked = u.worked; left = u.left }
-
-  pub native_few : account.counted.evaluations < 0xffff_ffff_ffff_ffff → Few account.counted
-  native_few m = record { small = m; switched = u.onward.switched; lanes = u.onward.lanes; identities = u.onward.identities }
-
-  pub native_listed : (k : ℕ) → k ≡ score_refusal xs account.counted.evaluations → k ≤ 0 → account.counted.evaluations < length xs
-  native_listed k e z = let y : k ≡ 0 = omega arith in score_listed xs account.counted.evaluations (sym e ∙ y)
-
   module _ (f : n < h.families) (w : n < b.max_work) (e : n < b.max_evaluations) where
     native_as : walk_from (panel_of s) b [] (seed_walk n) ≡ before (native_of (panel_of s) n) (walk_from (panel_of s) b [] (seed_walk (n + 1)))
     native_as = seed_one (panel_of s) b n (rw (panel_families s h acc.counted.framed, families_length s h) f) w e
@@ -76,26 +64,21 @@ module _ {s : List ℕ} {h : Header} {b : SearchBudget} {v : ℕ} {xs : List Flo
     pub native_fits : (g : Family) → g.number ≡ n → length (encode (native_of (panel_of s) g.number)) ≤ v
     native_fits g q = rw q native_onward.fits.0
 
-    pub sown_refused : (k : ℕ) → k ≡ score_refusal xs account.counted.evaluations → 0 < k → (m : ℕ) → m ≡ account.counted.evaluations + 1
-        → Sown (panel_of s) h b v xs ks ss ks' ss' (record { refusal = record { number = k; place = m }; natives = n; account = account })
-    sown_refused k j z m i =
+    pub sown_refused : (q : Unscored) → as_refusal q ≡ score_refused xs account.counted.evaluations → Sown (panel_of s) h b v xs ks ss ks' ss' (Err q)
+    sown_refused q k =
         record {
-          refused = λ y. ap (λ (m : ℕ). record { number = k; place = m }) i ∙ onward_refused (panel_of s) b v xs (native_of (panel_of s) n) (walk_from (panel_of s) b [] (seed_walk (n + 1))) native_onward k j z;
-          onward = λ y. absurd (omega arith);
-          few = u.few;
-          over = λ y a c. absurd (omega arith);
-          worked = u.worked;
+          refused = onward_refused (panel_of s) b v xs (native_of (panel_of s) n) (walk_from (panel_of s) b [] (seed_walk (n + 1))) native_onward q k;
+          sowed = tt;
           left = u.left;
         }
 
-    pub sowing_next : {acc' : Account} {ls : List ℕ} {ts : List Float} (k : ℕ) → k ≡ score_refusal xs account.counted.evaluations → k ≤ 0 → (g : Family) → g.number ≡ n
-        → Entered (panel_of s) b v xs (native_of (panel_of s) g.number) account ks' ss' ls ts acc' → (next : ℕ) → next ≡ sum (take (g.number + 1) (path_counts h s))
-        → Sowing s h b v xs ks ss ls ts (n + 1) next acc'
-    sowing_next {acc'} {ls} {ts} k j z g q x next d =
-        let y : k ≡ 0 = omega arith in
-        let x' = subst (λ (m : ℕ). Entered (panel_of s) b v xs (native_of (panel_of s) m) account ks' ss' ls ts acc') q x in
+    pub sowing_next : {score : Float} {acc' : Account} {ls : List ℕ} {ts : List Float} → no_refusal ≡ score_refused xs account.counted.evaluations → score ≡ get_or xs account.counted.evaluations nan
+        → (g : Family) → g.number ≡ n → Entered (panel_of s) b v score (native_of (panel_of s) g.number) account ks' ss' ls ts acc'
+        → (next : ℕ) → next ≡ sum (take (g.number + 1) (path_counts h s)) → Sowing s h b v xs ks ss ls ts (n + 1) next acc'
+    sowing_next {score} {acc'} {ls} {ts} k e g q x next d =
+        let x' = subst (λ (m : ℕ). Entered (panel_of s) b v score (native_of (panel_of s) m) account ks' ss' ls ts acc') q x in
         record {
-          onward = onward_one (panel_of s) b v xs (native_of (panel_of s) n) (walk_from (panel_of s) b [] (seed_walk (n + 1))) native_onward (sym j ∙ y) x';
+          onward = onward_one (panel_of s) b v xs (native_of (panel_of s) n) (walk_from (panel_of s) b [] (seed_walk (n + 1))) native_onward k e x';
           left = left_on u.left (x.left u.onward.kept u.onward.keeps);
           few = omega arith;
           worked = omega arith;
@@ -105,14 +88,14 @@ module _ {s : List ℕ} {h : Header} {b : SearchBudget} {v : ℕ} {xs : List Flo
 -- ---- a search that ends with its seeding: no frame is on the stack
 
 pub sown_ended : {p : Panel} {h : Header} {b : SearchBudget} {v : ℕ} {xs : List Float} {ks : List ℕ} {ss : List Float} {ks' : List ℕ} {ss' : List Float} {r : Seeded} (fs : List ℕ) (e : Stop) (t : Tally) (start : ℕ) (clear : Bool)
-    → Sown p h b v xs ks ss ks' ss' r → r.refusal.number ≡ 0 → used_by e 0 ≡ 0 → pending_words (ending_of e (frame_of fs 0).place) ≡ [] → walk_from p b [] (seed_walk r.natives) ≡ record { ending = ending_of e (frame_of fs 0).place; walk = walk_of t (stack_of fs 0) }
-    → Ended p b v xs fs ks ss fs ks' ss' (record { refusal = record { number = 0; place = 0 }; stop = e; at = record { tally = t; depth = 0; start = start; clear = clear }; account = r.account })
+    → Sown p h b v xs ks ss ks' ss' (Ok r) → used_by e 0 ≡ 0 → pending_words (ending_of e (frame_of fs 0).place) ≡ [] → walk_from p b [] (seed_walk r.natives) ≡ record { ending = ending_of e (frame_of fs 0).place; walk = walk_of t (stack_of fs 0) }
+    → Ended p b v xs fs ks ss fs ks' ss' (Ok (record { stop = e; at = record { tally = t; depth = 0; start = start; clear = clear }; account = r.account }))
 unfolding stack_words
-sown_ended {p} {h} {b} {v} {xs} {ks} {ss} {ks'} {ss'} {r} fs e t start clear w z f none q =
-    let o = w.onward z in
+sown_ended {p} {h} {b} {v} {xs} {ks} {ss} {ks'} {ss'} {r} fs e t start clear w f none q =
+    let o = w.sowed.onward in
     record {
       refused = sym (refusal_end p b xs r.account.counted o.kept (ending_of e (frame_of fs 0).place) t (stack_of fs 0)) ∙ ap (refusal_of xs r.account.counted.evaluations) (sym q) ∙ o.refused;
-      told = λ y.
+      told =
           record {
             kept = o.kept;
             keeps = o.keeps;
@@ -132,76 +115,62 @@ unfolding sum
 no_paths = refl
 
 module _ {s : List ℕ} {h : Header} {b : SearchBudget} {v : ℕ} {xs : List Float} {ks : List ℕ} {ss : List Float} {ks' : List ℕ} {ss' : List Float} {q : Seeded} (acc : Accepted s h)
-    (w : Sown (panel_of s) h b v xs ks ss ks' ss' q) (fs : List ℕ) where
+    (w : Sown (panel_of s) h b v xs ks ss ks' ss' (Ok q)) (fs : List ℕ) where
   families_counted : length (panel_of s).families ≡ h.families
   families_counted = ap length (panel_families s h acc.counted.framed) ∙ families_length s h
 
-  pub early_refused : 0 < q.refusal.number → (r : Found) → r ≡ record { refusal = q.refusal; stop = Exhausted; at = standing_with q.natives 0; account = q.account }
-      → Ended (panel_of s) b v xs fs ks ss fs ks' ss' r
-  early_refused z r e = rw e (record { refused = w.refused z; told = λ y. absurd (omega arith); left = w.left; frames = record { long = refl; rest = refl } })
+  pub early_evaluation : q.natives < h.families → b.max_evaluations ≤ q.natives
+      → (r : Found) → r ≡ record { stop = Evaluation; at = standing_with q.natives 0; account = q.account } → Ended (panel_of s) b v xs fs ks ss fs ks' ss' (Ok r)
+  early_evaluation f g r e =
+      rw e
+      (sown_ended fs Evaluation (seed_tally q.natives) 0 true w refl refl
+      (seed_evaluation (panel_of s) b q.natives (rw families_counted f) g ∙ rw (stack_none fs)))
 
-  module _ (z : q.refusal.number ≤ 0) where
-    zero_number : q.refusal.number ≡ 0
-    zero_number = omega arith
+  pub early_work : q.natives < h.families → q.natives < b.max_evaluations
+      → (r : Found) → r ≡ record { stop = Work; at = standing_with q.natives 0; account = q.account } → Ended (panel_of s) b v xs fs ks ss fs ks' ss' (Ok r)
+  early_work f g r e =
+      rw e
+      (sown_ended fs Work (seed_tally q.natives) 0 true w refl refl
+      (seed_work (panel_of s) b q.natives (rw families_counted f) g (w.sowed.over f g) ∙ rw (stack_none fs)))
 
-    pub early_evaluation : q.natives < h.families → b.max_evaluations ≤ q.natives
-        → (r : Found) → r ≡ record { refusal = record { number = 0; place = 0 }; stop = Evaluation; at = standing_with q.natives 0; account = q.account }
-        → Ended (panel_of s) b v xs fs ks ss fs ks' ss' r
-    early_evaluation f g r e =
-        rw e
-        (sown_ended fs Evaluation (seed_tally q.natives) 0 true w zero_number refl refl
-        (seed_evaluation (panel_of s) b q.natives (rw families_counted f) g ∙ rw (stack_none fs)))
+  pub early_none : h.families ≡ 0 → (r : Found) → r ≡ record { stop = Exhausted; at = standing_with q.natives 0; account = q.account } → Ended (panel_of s) b v xs fs ks ss fs ks' ss' (Ok r)
+  early_none f r e =
+      let few = w.sowed.few in
+      let same : q.natives ≡ length (panel_of s).families = rw families_counted (omega arith) in
+      rw e
+      (sown_ended fs Exhausted (seed_tally q.natives) 0 true w refl refl
+      (seed_none (panel_of s) b q.natives same (omega arith) ∙ rw (stack_none fs)))
 
-    pub early_work : q.natives < h.families → q.natives < b.max_evaluations
-        → (r : Found) → r ≡ record { refusal = record { number = 0; place = 0 }; stop = Work; at = standing_with q.natives 0; account = q.account }
-        → Ended (panel_of s) b v xs fs ks ss fs ks' ss' r
-    early_work f g r e =
-        rw e
-        (sown_ended fs Work (seed_tally q.natives) 0 true w zero_number refl refl
-        (seed_work (panel_of s) b q.natives (rw families_counted f) g (w.over zero_number f g) ∙ rw (stack_none fs)))
+  -- the first family's root is put, and the walk goes on
+  module _ (all : h.families ≤ q.natives) (some : h.families ≡ 0 → ⊥) (f : Framable b fs) (ws : List ℕ) (ew : ws ≡ put fs 0 (root_of (panel_of s) 0)) where
+    first_left : 0 < h.families
+    first_left = omega arith
 
-    pub early_none : h.families ≡ 0 → (r : Found) → r ≡ record { refusal = record { number = 0; place = 0 }; stop = Exhausted; at = standing_with q.natives 0; account = q.account }
-        → Ended (panel_of s) b v xs fs ks ss fs ks' ss' r
-    early_none f r e =
-        let few = w.few in
+    first_begins : 0 ≡ sum (take 0 (path_counts h s))
+    first_begins = no_paths
+
+    first_worked : q.natives ≤ b.max_work
+    first_worked = w.sowed.worked
+
+    pub first_walking : (at : Standing) → at ≡ standing_with q.natives 1 → Walking s h b ws at.tally at.depth at.start at.clear
+    first_walking at e = rw e (begun_walking s h b fs (seed_tally q.natives) 0 acc first_left first_begins f.some f.few f.room first_worked (omega arith) ws ew)
+
+    first_same : walk_from (panel_of s) b [] (seed_walk q.natives) ≡ to_go (panel_of s) b (seed_tally q.natives) ws 1
+    first_same =
+        let few = w.sowed.few in
         let same : q.natives ≡ length (panel_of s).families = rw families_counted (omega arith) in
-        rw e
-        (sown_ended fs Exhausted (seed_tally q.natives) 0 true w zero_number refl refl
-        (seed_none (panel_of s) b q.natives same (omega arith) ∙ rw (stack_none fs)))
+        seed_all (panel_of s) b q.natives same (omega arith)
+        ∙ sym (begun_to_go s h b fs (seed_tally q.natives) 0 acc first_left first_begins f.some f.few f.room first_worked (omega arith) ws ew)
 
-    -- the first family's root is put, and the walk goes on
-    module _ (all : h.families ≤ q.natives) (some : h.families ≡ 0 → ⊥) (f : Framable b fs) (ws : List ℕ) (ew : ws ≡ put fs 0 (root_of (panel_of s) 0)) where
-      first_left : 0 < h.families
-      first_left = omega arith
+    pub first_onward : (at : Standing) → at ≡ standing_with q.natives 1 → Onward (panel_of s) b v xs (to_go (panel_of s) b at.tally ws at.depth) q.account ks' ss'
+    first_onward at e = rw e (subst (λ (r : Walked). Onward (panel_of s) b v xs r q.account ks' ss') first_same w.sowed.onward)
 
-      first_begins : 0 ≡ sum (take 0 (path_counts h s))
-      first_begins = no_paths
-
-      first_worked : q.natives ≤ b.max_work
-      first_worked = w.worked
-
-      pub first_walking : (at : Standing) → at ≡ standing_with q.natives 1 → Walking s h b ws at.tally at.depth at.start at.clear
-      first_walking at e = rw e (begun_walking s h b fs (seed_tally q.natives) 0 acc first_left first_begins f.some f.few f.room first_worked (omega arith) ws ew)
-
-      first_same : walk_from (panel_of s) b [] (seed_walk q.natives) ≡ to_go (panel_of s) b (seed_tally q.natives) ws 1
-      first_same =
-          let few = w.few in
-          let same : q.natives ≡ length (panel_of s).families = rw families_counted (omega arith) in
-          seed_all (panel_of s) b q.natives same (omega arith)
-          ∙ sym (begun_to_go s h b fs (seed_tally q.natives) 0 acc first_left first_begins f.some f.few f.room first_worked (omega arith) ws ew)
-
-      pub first_onward : (at : Standing) → at ≡ standing_with q.natives 1 → Onward (panel_of s) b v xs (to_go (panel_of s) b at.tally ws at.depth) q.account ks' ss'
-      first_onward at e = rw e (subst (λ (r : Walked). Onward (panel_of s) b v xs r q.account ks' ss') first_same (w.onward zero_number))
-
-      pub first_ended : {fs' ls : List ℕ} {ts : List Float} {r : Found} → Ended (panel_of s) b v xs ws ks' ss' fs' ls ts r → Ended (panel_of s) b v xs fs ks ss fs' ls ts r
-      first_ended e =
-          record {
-            refused = e.refused;
-            told = e.told;
-            left = left_on w.left e.left;
-            frames =
-                room_on (begun_kept s h b fs (seed_tally q.natives) 0 acc first_left first_begins f.some f.few f.room first_worked (omega arith) ws ew) e.frames;
-          }
-
-pub found_at : (q : Refusal) (e : Stop) (a c : Standing) (account : Account) → a ≡ c → ◌≡◌ {A = Found} (record { refusal = q; stop = e; at = a; account = account }) (record { refusal = q; stop = e; at = c; account = account })
-found_at q e a c account h = rw h
+    pub first_ended : {fs' ls : List ℕ} {ts : List Float} {r : Result Found Unscored} → Ended (panel_of s) b v xs ws ks' ss' fs' ls ts r → Ended (panel_of s) b v xs fs ks ss fs' ls ts r
+    first_ended e =
+        record {
+          refused = e.refused;
+          told = e.told;
+          left = left_on w.left e.left;
+          frames =
+              room_on (begun_kept s h b fs (seed_tally q.natives) 0 acc first_left first_begins f.some f.few f.room first_worked (omega arith) ws ew) e.frames;
+        }

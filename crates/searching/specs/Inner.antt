@@ -1,5 +1,6 @@
 -- A search under way, from what is left of its walk; nothing here is part of a public promise.
-use Rattle.std.specs.Prelude.{ℕ, suc, ◌+◌, ◌*◌, ◌≤◌, ◌<◌, max, ◌≡◌, true, List, [], ◌++◌, length, take, drop, get_or, Float, ltb, eqb}
+use Rattle.std.specs.Prelude.{ℕ, suc, ◌+◌, ◌*◌, ◌≤◌, ◌<◌, max, ◌≡◌, true, List, [], ◌++◌, length, take, drop, get_or, Float, ltb, eqb, Some, Result, Ok, Err}
+use Rattle.std.specs.Result.{IfOk, IfErr}
 use Rattle.std.specs.Float.{nan}
 use Rattle.std.specs.Float.Ieee.Scale.{finite}
 use Rattle.ground.specs.Lists.{pick, one_more_if}
@@ -17,21 +18,42 @@ use Rattle.search.specs.Run.{Walked, walk_from}
 use Rattle.search.specs.Counters.{switches_of, has_switch, mixes_lanes, mixes_identities, status_of, status_number}
 use Rattle.search.specs.Keep.{Kept, Evaluated, score_of, same_evaluated, keep_one, scores_refusal}
 use Rattle.search.specs.Search.{State, Searched, searched_as, search, evaluation_refusal, fresh}
-use Rattle.evaluate.specs.Refusals.{at}
+use Rattle.evaluate.specs.Refusals.{no_refusal, at}
 use Rattle.search.specs.Budget.{budget_refusal}
 use Rattle.search.specs.Answers.{Rooms, reply_of, refused_search, rooms_after}
-use Rattle.search.specs.Rooms.{frame_width, stack_words, pending_words, rooms_refusal}
+use Rattle.search.specs.Rooms.{frame_width, stack_words, pending_words, slot_width, rooms_refusal}
+use Rattle.budget.specs.declared.BudgetRefusal.{BudgetRefusal}
+use Rattle.budget.specs.Inner.{refusal_of as budget_number}
 use Rattle.frames.specs.Inner.{frame_of, stack_of}
 use Rattle.walks.specs.declared.Standing.{Standing}
 use Rattle.walks.specs.Inner.{ending_of, used_by, seed_walk, pending_at}
 use Rattle.walks.specs.Inner.{Kept as Room}
-use Rattle.kept.specs.Inner.{Recorded, Keeps, Left}
+use Rattle.kept.specs.declared.Holding.{Holding}
+use Rattle.kept.specs.Inner.{besides, Recorded, Keeps, Left}
 use Rattle.marks.specs.declared.Marks.{Marks}
 use Rattle.marks.specs.Inner.{marks_of}
+use Rattle.searching.specs.declared.ScoreRefusal.{ScoreRefusal}
+use Rattle.searching.specs.declared.ScoreRefusal.TheVariants.{Missing, Unfit}
+use Rattle.searching.specs.declared.Unscored.{Unscored}
 use Rattle.searching.specs.declared.Counted.{Counted}
 use Rattle.searching.specs.declared.Account.{Account}
 use Rattle.searching.specs.declared.Found.{Found}
 use Rattle.searching.specs.declared.Seeded.{Seeded}
+
+-- ---- a refused score
+
+abbrev pub number_of : ScoreRefusal → ℕ
+number_of Missing = 14
+number_of Unfit = 15
+
+-- its number, with its place
+abbrev pub as_refusal : Unscored → Refusal
+as_refusal e = record { number = number_of e.refusal; place = e.place }
+
+-- the refusal, or none
+abbrev pub refusal_in : {A : Type 0} → Result A Unscored → Refusal
+refusal_in (Ok a) = no_refusal
+refusal_in (Err e) = as_refusal e
 
 -- ---- counters
 
@@ -96,6 +118,10 @@ kept_with b k e = keep_one score_of same_evaluated b.max_optima b.tie_width k e
 unfoldable pub score_refusal : List Float → ℕ → ℕ
 score_refusal xs n = pick (ltb n (length xs)) (pick (finite (get_or xs n nan)) 0 15) 14
 
+-- with its place
+abbrev pub score_refused : List Float → ℕ → Refusal
+score_refused xs n = at (score_refusal xs n) (n + 1) no_refusal
+
 -- counted by its marks
 abbrev pub marked_with : Counted → Marks → Counted
 marked_with c m =
@@ -120,13 +146,15 @@ pub record Marked (p : Panel) (a : Assignment) (xs ys : List ℕ) (r : Marks) : 
   pub marks : r ≡ marks_of p a
 
 pub record Settled (b : SearchBudget) (v : ℕ) (m : Marks) (score : Float) (from : Account) (xs : List ℕ) (ss : List Float) (ys : List ℕ) (ts : List Float) (r : Account) : Type 0 where
-  pub recorded : Recorded v b.max_optima b.tie_width score from.held xs ss ys ts r.held
+  pub held : Holding
+  pub holds : r.held ≡ Some held
+  pub recorded : Recorded v b.max_optima b.tie_width score from.held xs ss ys ts held
   pub counted : r.counted ≡ marked_with from.counted m
 
 -- whatever the rooms held, they hold it with one more evaluation
-pub record Entered (p : Panel) (b : SearchBudget) (v : ℕ) (scores : List Float) (a : Assignment) (from : Account) (xs : List ℕ) (ss : List Float) (ys : List ℕ) (ts : List Float) (r : Account) : Type 0 where
+pub record Entered (p : Panel) (b : SearchBudget) (v : ℕ) (score : Float) (a : Assignment) (from : Account) (xs : List ℕ) (ss : List Float) (ys : List ℕ) (ts : List Float) (r : Account) : Type 0 where
   pub keeps : (k : Kept Evaluated) → Keeps v b.max_optima k from.held xs ss
-      → Keeps v b.max_optima (kept_with b k (scored_by scores from.counted.evaluations a)) r.held ys ts
+      → Keeps v b.max_optima (kept_with b k (record { assignment = a; score = score })) r.held ys ts
   pub left : (k : Kept Evaluated) → Keeps v b.max_optima k from.held xs ss → Left v b.max_optima xs ss ys ts
   pub counted : r.counted ≡ counted_with p from.counted a
 
@@ -156,9 +184,9 @@ pub record Told (p : Panel) (b : SearchBudget) (v : ℕ) (xs : List Float) (fram
   pub words : take (used_by r.stop r.at.depth * frame_width) frames ≡ stack_words (stack_of frames r.at.depth) ++ pending_words (ending_of r.stop (frame_of frames r.at.depth).place)
   pub deep : r.at.depth ≤ b.max_frontier
 
-pub record Ended (p : Panel) (b : SearchBudget) (v : ℕ) (xs : List Float) (fs ks : List ℕ) (ss : List Float) (fs' ks' : List ℕ) (ss' : List Float) (r : Found) : Type 0 where
-  pub refused : r.refusal ≡ evaluation_refusal p b xs fresh
-  pub told : r.refusal.number ≡ 0 → Told p b v xs fs' ks' ss' r
+pub record Ended (p : Panel) (b : SearchBudget) (v : ℕ) (xs : List Float) (fs ks : List ℕ) (ss : List Float) (fs' ks' : List ℕ) (ss' : List Float) (r : Result Found Unscored) : Type 0 where
+  pub refused : refusal_in r ≡ evaluation_refusal p b xs fresh
+  pub told : IfOk r (Told p b v xs fs' ks' ss')
   pub left : Left v b.max_optima ks ss ks' ss'
   pub frames : Room b fs fs'
 
@@ -170,13 +198,17 @@ seed_tally n = record { work = n; evaluations = n; natives = n; donors = 0; non_
 abbrev pub standing_with : ℕ → ℕ → Standing
 standing_with n d = record { tally = seed_tally n; depth = d; start = 0; clear = true }
 
--- seeding ended: refused, or with so many natives evaluated, and no other is to come
-pub record Sown (p : Panel) (h : Header) (b : SearchBudget) (v : ℕ) (xs : List Float) (ks : List ℕ) (ss : List Float) (ks' : List ℕ) (ss' : List Float) (r : Seeded) : Type 0 where
-  pub refused : 0 < r.refusal.number → r.refusal ≡ evaluation_refusal p b xs fresh
-  pub onward : r.refusal.number ≡ 0 → Onward p b v xs (walk_from p b [] (seed_walk r.natives)) r.account ks' ss'
+-- so many natives are evaluated, and no other is to come
+pub record Sowed (p : Panel) (h : Header) (b : SearchBudget) (v : ℕ) (xs : List Float) (ks : List ℕ) (ss : List Float) (r : Seeded) : Type 0 where
+  pub onward : Onward p b v xs (walk_from p b [] (seed_walk r.natives)) r.account ks ss
   pub few : r.natives ≤ h.families
-  pub over : r.refusal.number ≡ 0 → r.natives < h.families → r.natives < b.max_evaluations → b.max_work ≤ r.natives
+  pub over : r.natives < h.families → r.natives < b.max_evaluations → b.max_work ≤ r.natives
   pub worked : r.natives ≤ b.max_work
+
+-- seeding ended: refused, or with so many natives
+pub record Sown (p : Panel) (h : Header) (b : SearchBudget) (v : ℕ) (xs : List Float) (ks : List ℕ) (ss : List Float) (ks' : List ℕ) (ss' : List Float) (r : Result Seeded Unscored) : Type 0 where
+  pub refused : IfErr r (λ e. as_refusal e ≡ evaluation_refusal p b xs fresh)
+  pub sowed : IfOk r (Sowed p h b v xs ks' ss')
   pub left : Left v b.max_optima ks ss ks' ss'
 
 -- the frame room is as long as a walk needs
@@ -198,7 +230,7 @@ replied_as r =
     record {
       refusal = 0;
       place = 0;
-      status = status_number (status_of r.stop r.account.held.discarded);
+      status = status_number (status_of r.stop (besides r.account.held).discarded);
       work = r.at.tally.work;
       evaluations = r.at.tally.evaluations;
       natives = r.at.tally.natives;
@@ -208,8 +240,8 @@ replied_as r =
       mixed_identity = r.account.counted.mixed_identity;
       switches = r.account.counted.switches;
       families = r.at.tally.families;
-      optima = r.account.held.count;
-      discarded = bit r.account.held.discarded;
+      optima = (besides r.account.held).count;
+      discarded = bit (besides r.account.held).discarded;
       frames = r.at.depth;
       pending = bit (pending_at r.stop);
     }
@@ -220,6 +252,20 @@ answer_in p b xs = pick (eqb (evaluation_refusal p b xs fresh).number 0) (reply_
 
 unfoldable pub rooms_in : Panel → SearchBudget → List Float → Rooms → Rooms
 rooms_in p b xs rooms = rooms_after p b (evaluation_refusal p b xs fresh).number (search p b xs) rooms
+
+-- budgets within their bounds, and rooms that are long enough for slots of v words
+pub record Fits (p : Panel) (b : SearchBudget) (frames kept scores v : ℕ) : Type 0 where
+  pub width : v ≡ slot_width p b
+  pub some : 0 < b.max_frontier
+  pub few : b.max_frontier ≤ 1024
+  pub framed : (b.max_frontier + 1) * frame_width ≤ frames
+  pub held : b.max_optima * v + v + v ≤ kept
+  pub scored : b.max_optima < scores
+
+-- 11 to 13, or the words of a slot
+pub record Checked (p : Panel) (b : SearchBudget) (frames kept scores : ℕ) (r : Result ℕ BudgetRefusal) : Type 0 where
+  pub refused : record { number = budget_number r; place = 0 } ≡ at (budget_refusal b) 0 (at (rooms_refusal p b frames kept scores) 0 no_refusal)
+  pub fits : IfOk r (Fits p b frames kept scores)
 
 -- 11, 12, 13, then 14 and 15: what the panel does not refuse
 unfoldable pub refusal_on : Panel → SearchBudget → List Float → Rooms → Refusal

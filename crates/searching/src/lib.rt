@@ -1,27 +1,54 @@
 // The scored search (search.rs, search): the walk's evaluations with their scores, counted and kept.
 #![tactic(auto)]
 
-ghost use Rattle.std.specs.Prelude.{◌≡◌, ◌+◌, ◌*◌, ◌-◌, ◌≤◌, ◌<◌, max, length};
-ghost use Rattle.ground.specs.Lists.{one_more_if};
+ghost use Rattle.std.specs.Prelude.{◌≡◌, ◌+◌, ◌*◌, ◌-◌, ◌≤◌, ◌<◌, length, get_or, IfOk};
+ghost use Rattle.std.specs.Float.{nan};
 ghost use Rattle.image.specs.Inner.{Framed, Groups, Started};
 ghost use Rattle.image.specs.Panel.{panel_of};
 ghost use Rattle.panel.specs.Inner.{Accepted};
 ghost use Rattle.evaluate.specs.Segments.{native_of};
-ghost use Rattle.evaluate.specs.Words.{bit, encode};
+ghost use Rattle.evaluate.specs.Words.{encode};
 ghost use Rattle.search.specs.Rooms.{frame_width, slot_width};
 ghost use Rattle.search.specs.Run.{walk};
 ghost use Rattle.search.specs.Answers.{Rooms, refused_search, search_answer, search_rooms};
 ghost use Rattle.kept.specs.Inner.{Tidy, Ready, no_holding};
 ghost use Rattle.landings.specs.Inner.{Known};
 ghost use Rattle.walks.specs.Inner.{assigned, to_go, Walking};
-ghost use Rattle.searching.specs.Inner.{score_refusal, marked_with, Few, Marked, Settled, Entered, Onward, Ended, Sown, standing_with, Framable, Lent, none_counted, replied_as, answer_in, rooms_in, answer_on, rooms_on};
+ghost use Rattle.searching.specs.Inner.{number_of, refusal_in, score_refused, marked_with, Few, Marked, Settled, Entered, Onward, Ended, Sown, standing_with, Framable, Lent, none_counted, replied_as, answer_in, rooms_in, Checked, answer_on, rooms_on};
 
+use budget::BudgetRefusal;
 use evaluate::Segment;
+use kept::Holding;
 use search::{SearchBudget, Stop};
 use walks::{Halt, Standing};
 
+// Why an evaluation is refused: it has no score, or one that is not finite.
+#[derive(Clone, Copy, PartialEq, Eq, Debug)]
+pub enum ScoreRefusal {
+    Missing,
+    Unfit,
+}
+
+impl ScoreRefusal {
+    pub fn number(self) -> u64
+        ensures { result ≡ number_of self }
+    {
+        match self {
+            ScoreRefusal::Missing => 14,
+            ScoreRefusal::Unfit => 15,
+        }
+    }
+}
+
+// A refused evaluation: why, and which one it is.
+#[derive(Clone, Copy, PartialEq, Eq, Debug)]
+pub struct Unscored {
+    pub refusal: ScoreRefusal,
+    pub place: u64,
+}
+
 // What was evaluated so far, counted by its marks.
-#[derive(Clone, Copy)]
+#[derive(Clone, Copy, PartialEq, Eq, Debug)]
 pub struct Counted {
     pub evaluations: usize,
     pub non_native: u64,
@@ -30,62 +57,51 @@ pub struct Counted {
     pub switches: u64,
 }
 
-// What a search has counted, and what its kept rooms hold.
-#[derive(Clone, Copy)]
+// What a search has counted, and what its kept rooms hold once there is an incumbent.
+#[derive(Clone, Copy, PartialEq, Eq, Debug)]
 pub struct Account {
     pub counted: Counted,
-    pub held: kept::Holding,
+    pub held: Option<Holding>,
 }
 
-// How a search ended: its refusal, or which budget stopped it, where its walk then stands, and its account.
+// How a search ended: which budget stopped it, where its walk then stands, and its account.
 #[derive(Clone, Copy)]
 pub struct Found {
-    pub refusal: evaluate::Refusal,
     pub stop: Stop,
     pub at: Standing,
     pub account: Account,
 }
 
-// Where seeding ended: its refusal, the natives evaluated, and the account.
-#[derive(Clone, Copy)]
+// Where seeding ended: the natives evaluated, and the account.
+#[derive(Clone, Copy, PartialEq, Eq, Debug)]
 pub struct Seeded {
-    pub refusal: evaluate::Refusal,
     pub natives: usize,
     pub account: Account,
 }
 
 // ---- one evaluation
 
-// 14 where the evaluation after n others has no score, 15 where its score is not finite, or 0.
-fn score_refusal(scores: &[f64], n: usize) -> u64
-    ensures { result ≡ score_refusal scores.now n }
-{
-    if n < scores.len() {
-        if doubles::is_finite(scores[n]) { 0 } else { 15 }
-    } else {
-        14
-    }
-}
-
-// The evaluation's number, after n others that have scores.
-fn place_after(scores: &[f64], n: usize) -> u64
+// The score of the evaluation after n others that have scores.
+#[tactic(auto, unfolding(crate::specs::Inner::score_refusal))]
+fn score_after(scores: &[f64], n: usize) -> Result<f64, Unscored>
     requires { n ≤ length scores.now }
-    ensures { result ≡ n + 1 }
+    ensures refused { refusal_in result ≡ score_refused scores.now n }
+    ensures score { IfOk result (λ x. x ≡ get_or scores.now n nan) }
 {
-    n as u64 + 1
-}
-
-fn one_more_if(t: bool, n: u64) -> u64
-    requires { n < 0xffff_ffff_ffff_ffff }
-    ensures { result ≡ one_more_if t n }
-{
-    if t { n + 1 } else { n }
-}
-
-fn larger(a: u64, b: u64) -> u64
-    ensures { result ≡ max a b }
-{
-    if a < b { b } else { a }
+    let place = n as u64 + 1;
+    let Some(&score) = scores.get(n) else {
+        return Err(Unscored {
+            refusal: ScoreRefusal::Missing,
+            place,
+        });
+    };
+    if !doubles::is_finite(score) {
+        return Err(Unscored {
+            refusal: ScoreRefusal::Unfit,
+            place,
+        });
+    }
+    Ok(score)
 }
 
 // One evaluation more, with these marks.
@@ -95,10 +111,10 @@ fn counted_with(c: Counted, m: marks::Marks) -> Counted
 {
     Counted {
         evaluations: c.evaluations + 1,
-        non_native: one_more_if(0 < m.switches, c.non_native),
-        mixed: one_more_if(m.lanes, c.mixed),
-        mixed_identity: one_more_if(m.identities, c.mixed_identity),
-        switches: larger(c.switches, m.switches),
+        non_native: c.non_native + u64::from(0 < m.switches),
+        mixed: c.mixed + u64::from(m.lanes),
+        mixed_identity: c.mixed_identity + u64::from(m.identities),
+        switches: c.switches.max(m.switches),
     }
 }
 
@@ -118,8 +134,10 @@ fn settle(
     let optima = b.max_optima as usize;
     let width = b.tie_width;
     let held = kept::offer(kept, kept_scores, from.held, score, width, optima, v);
-    let counted = counted_with(from.counted, m);
-    Account { counted, held }
+    Account {
+        counted: counted_with(from.counted, m),
+        held: Some(held),
+    }
 }
 
 // ---- the words of what is evaluated
@@ -138,7 +156,7 @@ fn mark_path(
     ensures { Marked (panel_of image.now) (assigned family frames.now top s) slot.old slot.new result }
 {
     let n = writer::put_path(slot, frames, top, family, s);
-    marks::marks_of(image, h, &slot[0..n])
+    marks::marks_of(image, h, &slot[..n])
 }
 
 // A family's native assignment, into a slot; its marks.
@@ -152,7 +170,7 @@ fn mark_native(
     ensures { Marked (panel_of image.now) (native_of (panel_of image.now) family.number) slot.old slot.new result }
 {
     let n = writer::put_native(slot, image, h, family);
-    marks::marks_of(image, h, &slot[0..n])
+    marks::marks_of(image, h, &slot[..n])
 }
 
 // An evaluation of the walk: its words go into the spare.
@@ -161,7 +179,7 @@ fn enter_path(
     h: image::Header,
     b: SearchBudget,
     v: usize,
-    scores: &[f64],
+    score: f64,
     frames: &[u64],
     kept: &mut [u64],
     kept_scores: &mut [f64],
@@ -169,16 +187,14 @@ fn enter_path(
     s: Segment,
     from: Account,
 ) -> Account
-    requires framed { Framed image.now h × Few from.counted × (from.counted.evaluations < length scores.now) }
+    requires framed { Framed image.now h × Few from.counted }
     requires ready { Ready v b.max_optima from.held kept.old kept_scores.old }
-    requires depth_nonzero { (0 < at.depth) × (at.depth * frame_width ≤ length frames.now) × (length (encode (assigned at.tally.families frames.now (at.depth - 1) s)) ≤ v) }
-    ensures { Entered (panel_of image.now) b v scores.now (assigned at.tally.families frames.now (at.depth - 1) s) from kept.old kept_scores.old kept.new kept_scores.new result }
+    requires on_path { (0 < at.depth) × (at.depth * frame_width ≤ length frames.now) × (length (encode (assigned at.tally.families frames.now (at.depth - 1) s)) ≤ v) }
+    ensures { Entered (panel_of image.now) b v score (assigned at.tally.families frames.now (at.depth - 1) s) from kept.old kept_scores.old kept.new kept_scores.new result }
 {
-    let n = from.counted.evaluations;
-    let score = scores[n];
-    let a = (b.max_optima as usize + 1) * v;
+    let spare = (b.max_optima as usize + 1) * v;
     let m = mark_path(
-        &mut kept[a..],
+        &mut kept[spare..],
         image,
         h,
         frames,
@@ -195,21 +211,19 @@ fn enter_native(
     h: image::Header,
     b: SearchBudget,
     v: usize,
-    scores: &[f64],
+    score: f64,
     kept: &mut [u64],
     kept_scores: &mut [f64],
     family: image::Family,
     from: Account,
 ) -> Account
-    requires accepted { Accepted image.now h × Few from.counted × (from.counted.evaluations < length scores.now) }
+    requires accepted { Accepted image.now h × Few from.counted }
     requires ready { Ready v b.max_optima from.held kept.old kept_scores.old }
-    requires groups { Groups image.now h family × (length (encode (native_of (panel_of image.now) family.number)) ≤ v) }
-    ensures { Entered (panel_of image.now) b v scores.now (native_of (panel_of image.now) family.number) from kept.old kept_scores.old kept.new kept_scores.new result }
+    requires grouped { Groups image.now h family × (length (encode (native_of (panel_of image.now) family.number)) ≤ v) }
+    ensures { Entered (panel_of image.now) b v score (native_of (panel_of image.now) family.number) from kept.old kept_scores.old kept.new kept_scores.new result }
 {
-    let n = from.counted.evaluations;
-    let score = scores[n];
-    let a = (b.max_optima as usize + 1) * v;
-    let m = mark_native(&mut kept[a..], image, h, family);
+    let spare = (b.max_optima as usize + 1) * v;
+    let m = mark_native(&mut kept[spare..], image, h, family);
     settle(b, v, kept, kept_scores, m, score, from)
 }
 
@@ -229,7 +243,7 @@ fn run(
     kept_scores: &mut [f64],
     from: Standing,
     first: Account,
-) -> Found
+) -> Result<Found, Unscored>
     requires accepted { Accepted image.now h × Started image.now h starts.now × Known image.now h memo.old }
     requires walking { Walking image.now h b frames.old from.tally from.depth from.start from.clear }
     requires onward { Onward (panel_of image.now) b v scores.now (to_go (panel_of image.now) b from.tally frames.old from.depth) first kept.old kept_scores.old }
@@ -240,37 +254,16 @@ fn run(
     loop {
         let pause = walks::go_on(image, h, starts, memo, b, frames, at);
         at = pause.at;
-        let halt = pause.halt;
-        match halt {
-            Halt::Stopped(stop) => {
-                return Found {
-                    refusal: evaluate::Refusal {
-                        number: 0,
-                        place: 0,
-                    },
-                    stop,
-                    at,
-                    account,
-                };
-            }
+        match pause.halt {
+            Halt::Stopped(stop) => return Ok(Found { stop, at, account }),
             Halt::Due(s) => {
-                let n = account.counted.evaluations;
-                let number = score_refusal(scores, n);
-                let place = place_after(scores, n);
-                if 0 < number {
-                    return Found {
-                        refusal: evaluate::Refusal { number, place },
-                        stop: Stop::Exhausted,
-                        at,
-                        account,
-                    };
-                }
+                let score = score_after(scores, account.counted.evaluations)?;
                 account = enter_path(
                     image,
                     h,
                     b,
                     v,
-                    scores,
+                    score,
                     frames,
                     kept,
                     kept_scores,
@@ -293,52 +286,25 @@ fn seed(
     kept: &mut [u64],
     kept_scores: &mut [f64],
     first: Account,
-) -> Seeded
+) -> Result<Seeded, Unscored>
     requires { Accepted image.now h × Onward (panel_of image.now) b v scores.now (walk (panel_of image.now) b) first kept.old kept_scores.old }
     ensures { Sown (panel_of image.now) h b v scores.now kept.old kept_scores.old kept.new kept_scores.new result }
 {
-    let mut natives: usize = 0;
     let mut start: usize = 0;
     let mut account = first;
-    let none = evaluate::Refusal {
-        number: 0,
-        place: 0,
-    };
-    while natives < h.families {
-        if natives as u64 >= b.max_work {
-            return Seeded {
-                refusal: none,
-                natives,
-                account,
-            };
+    for natives in 0..h.families {
+        if natives as u64 >= b.max_work || natives as u64 >= b.max_evaluations {
+            return Ok(Seeded { natives, account });
         }
-        if natives as u64 >= b.max_evaluations {
-            return Seeded {
-                refusal: none,
-                natives,
-                account,
-            };
-        }
-        let n = account.counted.evaluations;
-        let number = score_refusal(scores, n);
-        let place = place_after(scores, n);
-        if 0 < number {
-            return Seeded {
-                refusal: evaluate::Refusal { number, place },
-                natives,
-                account,
-            };
-        }
+        let score = score_after(scores, account.counted.evaluations)?;
         let family = image::family_from(image, h, natives, start);
-        account = enter_native(image, h, b, v, scores, kept, kept_scores, family, account);
+        account = enter_native(image, h, b, v, score, kept, kept_scores, family, account);
         start = image::family_end(image, h, family);
-        natives += 1;
     }
-    Seeded {
-        refusal: none,
-        natives,
+    Ok(Seeded {
+        natives: h.families,
         account,
-    }
+    })
 }
 
 // Where a walk stands after seeding, with so many frames of the first family.
@@ -364,11 +330,10 @@ fn standing(natives: u64, depth: usize) -> Standing
 }
 
 // A search that ends with its seeding.
-fn ended_early(refusal: evaluate::Refusal, stop: Stop, natives: u64, account: Account) -> Found
-    ensures { result ≡ record { refusal = refusal; stop = stop; at = standing_with natives 0; account = account } }
+fn ended_early(stop: Stop, natives: u64, account: Account) -> Found
+    ensures { result ≡ record { stop = stop; at = standing_with natives 0; account = account } }
 {
     Found {
-        refusal,
         stop,
         at: standing(natives, 0),
         account,
@@ -388,32 +353,26 @@ fn search_families(
     kept: &mut [u64],
     kept_scores: &mut [f64],
     first: Account,
-) -> Found
+) -> Result<Found, Unscored>
     requires accepted { Accepted image.now h × Started image.now h starts.now × Known image.now h memo.old }
     requires framable { Framable b frames.old }
     requires onward { Onward (panel_of image.now) b v scores.now (walk (panel_of image.now) b) first kept.old kept_scores.old }
     ensures { Ended (panel_of image.now) b v scores.now frames.old kept.old kept_scores.old frames.new kept.new kept_scores.new result }
 {
-    let s = seed(image, h, b, v, scores, kept, kept_scores, first);
-    let n = s.natives as u64;
-    let none = evaluate::Refusal {
-        number: 0,
-        place: 0,
-    };
-    if 0 < s.refusal.number {
-        return ended_early(s.refusal, Stop::Exhausted, n, s.account);
-    }
-    if s.natives < h.families {
-        if n >= b.max_evaluations {
-            return ended_early(none, Stop::Evaluation, n, s.account);
-        }
-        return ended_early(none, Stop::Work, n, s.account);
+    let seeded = seed(image, h, b, v, scores, kept, kept_scores, first)?;
+    let n = seeded.natives as u64;
+    if seeded.natives < h.families {
+        let stop = if n >= b.max_evaluations {
+            Stop::Evaluation
+        } else {
+            Stop::Work
+        };
+        return Ok(ended_early(stop, n, seeded.account));
     }
     if h.families == 0 {
-        return ended_early(none, Stop::Exhausted, n, s.account);
+        return Ok(ended_early(Stop::Exhausted, n, seeded.account));
     }
     walks::put_root(image, h, starts, frames, 0, 0);
-    let at = standing(n, 1);
     run(
         image,
         h,
@@ -425,8 +384,8 @@ fn search_families(
         frames,
         kept,
         kept_scores,
-        at,
-        s.account,
+        standing(n, 1),
+        seeded.account,
     )
 }
 
@@ -455,28 +414,17 @@ fn refused(number: u64, place: u64) -> search::SearchReply
     }
 }
 
-fn bit_of(t: bool) -> u64
-    ensures { result ≡ bit t }
-{
-    if t { 1 } else { 0 }
-}
-
 // The answer of a search that was not refused.
 fn reply(f: Found) -> search::SearchReply
     ensures { result ≡ replied_as f }
 {
     let t = f.at.tally;
     let c = f.account.counted;
-    let held = f.account.held;
-    let stop = f.stop;
-    let status = walks::status_number(stop, held.discarded);
-    let discarded = bit_of(held.discarded);
-    let waiting = walks::is_pending(stop);
-    let pending = bit_of(waiting);
+    let held = f.account.held.unwrap_or(kept::NOTHING);
     search::SearchReply {
         refusal: 0,
         place: 0,
-        status,
+        status: walks::status_number(f.stop, held.discarded),
         work: t.work,
         evaluations: t.evaluations,
         natives: t.natives,
@@ -487,9 +435,9 @@ fn reply(f: Found) -> search::SearchReply
         switches: c.switches,
         families: t.families,
         optima: held.count as u64,
-        discarded,
+        discarded: u64::from(held.discarded),
         frames: f.at.depth as u64,
-        pending,
+        pending: u64::from(walks::is_pending(f.stop)),
     }
 }
 
@@ -504,11 +452,7 @@ fn none_yet() -> Account
             mixed_identity: 0,
             switches: 0,
         },
-        held: kept::Holding {
-            has: false,
-            count: 0,
-            discarded: false,
-        },
+        held: None,
     }
 }
 
@@ -525,14 +469,13 @@ fn search_in(
 ) -> search::SearchReply
     requires { Accepted image.now h × (v ≡ slot_width (panel_of image.now) b) × Framable b frames.old × Lent b v kept.old kept_scores.old }
     ensures value { result ≡ answer_in (panel_of image.now) b scores.now }
-    ensures fact { ◌≡◌ {A = Rooms} (record { frames = frames.exit.now; kept = kept.new; scores = kept_scores.new }) (rooms_in (panel_of image.now) b scores.now (record { frames = frames.entry.now; kept = kept.old; scores = kept_scores.old })) }
+    ensures rooms_after { ◌≡◌ {A = Rooms} (record { frames = frames.exit.now; kept = kept.new; scores = kept_scores.new }) (rooms_in (panel_of image.now) b scores.now (record { frames = frames.entry.now; kept = kept.old; scores = kept_scores.old })) }
 {
     let optima = b.max_optima as usize;
     let starts = image::lane_starts(image, h);
     let mut memo = landings::no_memo();
     kept::begin(kept, kept_scores, optima, v);
-    let first = none_yet();
-    let f = search_families(
+    let found = search_families(
         image,
         h,
         &starts,
@@ -543,17 +486,37 @@ fn search_in(
         frames,
         kept,
         kept_scores,
-        first,
+        none_yet(),
     );
-    if 0 < f.refusal.number {
-        walks::leave_frames(b, frames, Stop::Exhausted, 0);
-        kept::begin(kept, kept_scores, optima, v);
-        return refused(f.refusal.number, f.refusal.place);
+    match found {
+        Ok(f) => {
+            walks::leave_frames(b, frames, f.stop, f.at.depth);
+            reply(f)
+        }
+        Err(e) => {
+            walks::leave_frames(b, frames, Stop::Exhausted, 0);
+            kept::begin(kept, kept_scores, optima, v);
+            refused(e.refusal.number(), e.place)
+        }
     }
-    let stop = f.stop;
-    let depth = f.at.depth;
-    walks::leave_frames(b, frames, stop, depth);
-    reply(f)
+}
+
+// The words of a slot, where neither the budgets nor the rooms are refused.
+fn checked_width(
+    image: &[u8],
+    h: image::Header,
+    b: SearchBudget,
+    frames: usize,
+    kept: usize,
+    kept_scores: usize,
+) -> Result<usize, BudgetRefusal>
+    requires { Accepted image.now h }
+    ensures { Checked (panel_of image.now) b frames kept kept_scores result }
+{
+    budget::budget_refusal(b)?;
+    let v = budget::slot_width(image, h, b);
+    budget::rooms_refusal(b, v, frames, kept, kept_scores)?;
+    Ok(v)
 }
 
 // The search of a panel that was accepted: 11, 12, 13, then 14 and 15.
@@ -568,18 +531,12 @@ fn search_panel(
 ) -> search::SearchReply
     requires { Accepted image.now h }
     ensures value { result ≡ answer_on (panel_of image.now) b scores.now (record { frames = frames.entry.now; kept = kept.old; scores = kept_scores.old }) }
-    ensures fact { ◌≡◌ {A = Rooms} (record { frames = frames.exit.now; kept = kept.new; scores = kept_scores.new }) (rooms_on (panel_of image.now) b scores.now (record { frames = frames.entry.now; kept = kept.old; scores = kept_scores.old })) }
+    ensures rooms_after { ◌≡◌ {A = Rooms} (record { frames = frames.exit.now; kept = kept.new; scores = kept_scores.new }) (rooms_on (panel_of image.now) b scores.now (record { frames = frames.entry.now; kept = kept.old; scores = kept_scores.old })) }
 {
-    let budgets = budget::budget_refusal(b);
-    if 0 < budgets {
-        return refused(budgets, 0);
+    match checked_width(image, h, b, frames.len(), kept.len(), kept_scores.len()) {
+        Ok(v) => search_in(image, h, b, v, scores, frames, kept, kept_scores),
+        Err(e) => refused(e.number(), 0),
     }
-    let v = budget::slot_width(image, h, b);
-    let rooms = budget::rooms_refusal(b, v, frames.len(), kept.len(), kept_scores.len());
-    if 0 < rooms {
-        return refused(rooms, 0);
-    }
-    search_in(image, h, b, v, scores, frames, kept, kept_scores)
 }
 
 // The search: its answer and what it leaves in the lent rooms, for any bytes, budget, scores and rooms.
@@ -592,10 +549,10 @@ pub fn search(
     kept_scores: &mut [f64],
 ) -> search::SearchReply
     ensures value { result ≡ search_answer image.now b scores.now (record { frames = frames.entry.now; kept = kept.old; scores = kept_scores.old }) }
-    ensures fact { ◌≡◌ {A = Rooms} (record { frames = frames.exit.now; kept = kept.new; scores = kept_scores.new }) (search_rooms image.now b scores.now (record { frames = frames.entry.now; kept = kept.old; scores = kept_scores.old })) }
+    ensures rooms_after { ◌≡◌ {A = Rooms} (record { frames = frames.exit.now; kept = kept.new; scores = kept_scores.new }) (search_rooms image.now b scores.now (record { frames = frames.entry.now; kept = kept.old; scores = kept_scores.old })) }
 {
     match graph::check_panel(image) {
-        image::Opened::Good(h) => search_panel(image, h, b, scores, frames, kept, kept_scores),
-        image::Opened::Refused(n) => refused(n, 0),
+        Ok(h) => search_panel(image, h, b, scores, frames, kept, kept_scores),
+        Err(e) => refused(e.number(), 0),
     }
 }

@@ -1,26 +1,27 @@
 -- Laws of what the program prints.
-use Prim.Native.Nat.{ℕ, zero, suc, ◌+◌, ◌-◌, ◌*◌, ◌≤◌, ◌<◌}
+use Prim.Native.Nat.{ℕ, ◌/◌, ◌≤◌, ◌<◌}
 use native.Mathlib.Omega.{arith}
 use mathlib.Core.Path.{◌≡◌, refl, sym, ◌∙◌, ap, subst}
 use mathlib.Core.Bool.{Bool, true, false}
-use mathlib.Core.List.{List, [], ◌∷◌, ◌++◌, append-nil}
+use mathlib.Core.List.{List, [], ◌∷◌, ◌++◌, append-nil, map}
 use lib.Dec.{eqb}
-use lib.ListN.{length, take, drop, replicate}
-use lib.Seq.{length-take-le}
+use lib.ListN.{length, take, replicate}
+use lib.Seq.{take-append_seam}
 use lib.Ieee.{Float}
-use borrow.Author.Tests.{eq-eqb, ne_eqb}
-use Rattle.ground.specs.Lists.{pick}
+use borrow.Author.Tests.{eq-eqb}
+use Rattle.ground.specs.Lists.{pick, each}
 use Rattle.storage.specs.Bytes.{number}
 use Rattle.image.specs.declared.Header.{Header}
 use Rattle.image.specs.Panel.{Panel, panel_of, paths_at}
-use Rattle.image.specs.declared.Opened.{Opened}
-use Rattle.image.specs.declared.Opened.TheVariants.{Refused}
+use Rattle.image.specs.declared.PanelRefusal.{PanelRefusal}
+use Rattle.image.specs.declared.PanelRefusal.TheVariants.{Short, Counts, Layout, Lanes, Families, Records, Order, Listing}
+use Rattle.image.specs.Header.{refusal_number}
+use Rattle.std.specs.declared.result.Result.{Result}
+use Rattle.std.specs.declared.result.Result.TheVariants.{Err}
 use Rattle.panel.specs.Inner.{Accepted}
 use Rattle.graph.specs.Check.{checked, panel_refusal}
-use Rattle.evaluate.specs.Refusals.{at}
 use Rattle.evaluate.specs.Properties.{Each}
 use Rattle.evaluate.specs.Check.{over}
-use Rattle.evaluate.proofs.Native.{checked_none}
 use Rattle.words.specs.Inner.{assignment_of}
 use Rattle.search.specs.declared.SearchBudget.{SearchBudget}
 use Rattle.search.specs.declared.SearchReply.{SearchReply}
@@ -33,10 +34,11 @@ use Rattle.search.specs.Search.{Searched, search, status_after}
 use Rattle.search.specs.Rooms.{kept_left, left_in}
 use Rattle.search.specs.Answers.{Rooms, search_refusal, refused_search, reply_of, search_answer, rooms_after, search_rooms}
 use Rattle.search.specs.Sheet.{field, foreign_text, routes_lines, incumbent_lines, foreign, foreign_on, sheet, refusal_line}
-use Rattle.search.specs.Job.{job_ok, panel_in, budget_in, scores_in, program_rooms, job_refusal, printed}
+use Rattle.search.specs.Job.{job_ok, score_count, double_of, scores_in, program_rooms, job_refusal, printed}
 use Rattle.text.specs.Inner.{Put}
 use Rattle.lines.specs.Inner.{status_from, incumbent_text, sheet_of, Held}
-use Rattle.jobs.specs.Inner.{Sound, Scored}
+use Rattle.jobs.specs.declared.Job.{Job}
+use Rattle.jobs.specs.Inner.{Parts}
 use Rattle.sheets.specs.Inner.{incumbent_of, answer_text}
 use Rattle.sheets.proofs.Spans.{LowAssignment, accepted_bounded, handed_low}
 use Rattle.sheets.proofs.Rooms.{Starts, starts_is, starts_held, kept_starts, incumbent_each}
@@ -137,34 +139,32 @@ module _ (s : List ℕ) (b : SearchBudget) (xs : List Float) (fs ks : List ℕ) 
 
 -- ---- a job
 
-panel_refused : (s : List ℕ) (b : SearchBudget) (xs : List Float) (n : ℕ) → checked s ≡ Refused n → answer_text s b xs ≡ refusal_line (record { number = n; place = 0 })
+panel_refused : (s : List ℕ) (b : SearchBudget) (xs : List Float) (x : PanelRefusal) → checked s ≡ Err x → answer_text s b xs ≡ refusal_line (record { number = refusal_number x; place = 0 })
 unfolding answer_text search_refusal panel_refusal
-panel_refused s b xs zero e = absurd (checked_none s e)
-panel_refused s b xs (suc n) e = rw (e, ne_eqb (suc n) 0 (λ z. omega arith))
+panel_refused s b xs Short e = rw e
+panel_refused s b xs Counts e = rw e
+panel_refused s b xs Layout e = rw e
+panel_refused s b xs Lanes e = rw e
+panel_refused s b xs Families e = rw e
+panel_refused s b xs Records e = rw e
+panel_refused s b xs Order e = rw e
+panel_refused s b xs Listing e = rw e
 
-pub panel_put : (s : List ℕ) (b : SearchBudget) (xs : List Float) (n : ℕ) (o : Opened) {ys zs : List ℕ} {at m : ℕ} → o ≡ checked s → o ≡ Refused n → Put (refusal_line (record { number = n; place = 0 })) ys at zs m
+pub panel_put : (s : List ℕ) (b : SearchBudget) (xs : List Float) (x : PanelRefusal) (n : ℕ) (o : Result Header PanelRefusal) {ys zs : List ℕ} {at m : ℕ} → o ≡ checked s → o ≡ Err x → n ≡ refusal_number x → Put (refusal_line (record { number = n; place = 0 })) ys at zs m
     → Put (answer_text s b xs) ys at zs m
-panel_put s b xs n o {ys} {zs} {at} {m} e f put = subst (λ (l : List ℕ). Put l ys at zs m) (sym (panel_refused s b xs n (sym e ∙ f))) put
+panel_put s b xs x n o {ys} {zs} {at} {m} e f is put = subst (λ (l : List ℕ). Put l ys at zs m) (rw is (sym (panel_refused s b xs x (sym e ∙ f)))) put
 
-pub scores_long : (s : List ℕ) (at n : ℕ) (xs ys : List Float) → Sound s → n ≡ number (drop 16 s) → length xs ≡ 1024 → Scored s at n xs ys → n ≡ length (take n ys)
-scores_long s at n xs ys h e l r =
-    let a = h.scores in
-    let b = r.long in
-    sym (length-take-le n ys (omega arith))
-
-pub sound_put : (s : List ℕ) (panel words n : ℕ) (b : SearchBudget) (xs ys : List Float) {os us : List ℕ} {at k : ℕ} → panel ≡ number s → words ≡ number (drop 8 s) → n ≡ number (drop 16 s) → b ≡ budget_in s
-    → Scored s (24 + panel + 8 * words) n xs ys → Put (answer_text (take (24 + panel - 24) (drop 24 s)) b (take n ys)) os at us k → Put (answer_text (panel_in s) (budget_in s) (scores_in s)) os at us k
+scores_are : (s : List ℕ) (j : Job) → Parts s j → (xs ys zs : List Float) → length zs ≡ length j.scores.now / 8 → length xs ≡ length zs → xs ≡ map double_of (each number 8 (length zs) j.scores.now) → take (length j.scores.now / 8) (xs ++ ys) ≡ scores_in s
 unfolding scores_in
-sound_put s panel words n b xs ys {os} {us} {at} {k} ep ew en eb r put =
-    let p : 24 + panel - 24 ≡ number s = omega arith in
-    let image : take (24 + panel - 24) (drop 24 s) ≡ panel_in s = ap (λ (m : ℕ). take m (drop 24 s)) p in
-    let scores : take n ys ≡ scores_in s = r.first ∙ rw (ep, ew, en) in
-    subst (λ (l : List ℕ). Put l os at us k) (λ i. answer_text (image i) (eb i) (scores i)) put
+scores_are s j p xs ys zs n l e =
+    let m : length zs ≡ score_count s = (let b = p.long in omega arith) in
+    rw (← n, ← l) (take-append_seam xs ys) ∙ e ∙ rw (m, p.scores)
 
-pub job_put : (s : List ℕ) (b : Bool) {ys zs : List ℕ} {at m : ℕ} → b ≡ job_ok s → b ≡ false → Put (refusal_line (record { number = 16; place = 0 })) ys at zs m → Put (printed s) ys at zs m
+pub job_put : (s : List ℕ) {ys zs : List ℕ} {at m : ℕ} → job_ok s ≡ false → Put (refusal_line (record { number = 16; place = 0 })) ys at zs m → Put (printed s) ys at zs m
 unfolding printed job_refusal
-job_put s b {ys} {zs} {at} {m} e z put = rw (← e, z) put
+job_put s {ys} {zs} {at} {m} z put = rw z put
 
-pub answer_put : (s : List ℕ) (b : Bool) {ys zs : List ℕ} {at m : ℕ} → b ≡ job_ok s → b ≡ true → Put (answer_text (panel_in s) (budget_in s) (scores_in s)) ys at zs m → Put (printed s) ys at zs m
+pub parts_put : (s : List ℕ) (j : Job) → Parts s j → (xs ys zs : List Float) → length zs ≡ length j.scores.now / 8 → length xs ≡ length zs → xs ≡ map double_of (each number 8 (length zs) j.scores.now)
+    → {os us : List ℕ} {at m : ℕ} → Put (answer_text j.panel.now j.budget (take (length j.scores.now / 8) (xs ++ ys))) os at us m → Put (printed s) os at us m
 unfolding printed job_refusal answer_text
-answer_put s b {ys} {zs} {at} {m} e z put = rw (← e, z) put
+parts_put s j p xs ys zs n l e {os} {us} {at} {m} put = rw p.ok (subst (λ (t : List ℕ). Put t os at us m) (λ i. answer_text (p.panel i) (p.budget i) (scores_are s j p xs ys zs n l e i)) put)

@@ -4,11 +4,9 @@
 ghost use Rattle.std.specs.Prelude.{◌≡◌, length, replicate};
 ghost use Rattle.panel.specs.Inner.{Accepted};
 ghost use Rattle.evaluate.specs.Check.{over};
-ghost use Rattle.search.specs.Budget.{zero_score};
 ghost use Rattle.search.specs.Answers.{search_answer, search_rooms};
-ghost use Rattle.search.specs.Job.{panel_in, budget_in, scores_in, program_rooms, printed};
+ghost use Rattle.search.specs.Job.{program_rooms, printed};
 ghost use Rattle.text.specs.Inner.{Put};
-ghost use Rattle.jobs.specs.Inner.{Sound};
 ghost use Rattle.sheets.specs.Inner.{answer_text};
 
 use search::{SearchBudget, SearchReply};
@@ -28,30 +26,6 @@ pub const KEPT: usize = (OPTIMA + 2) * (2 + PATHS + evaluate::Segment::WORDS * F
 
 pub const KEPT_SCORES: usize = OPTIMA + 1;
 
-fn frame_room() -> [u64; FRAMES]
-    ensures { result ≡ replicate 330 0 }
-{
-    [0u64; FRAMES]
-}
-
-fn kept_room() -> [u64; KEPT]
-    ensures { result ≡ replicate 2484 0 }
-{
-    [0u64; KEPT]
-}
-
-fn score_room() -> [f64; KEPT_SCORES]
-    ensures { result ≡ replicate 17 zero_score }
-{
-    [0.0f64; KEPT_SCORES]
-}
-
-fn no_scores() -> [f64; jobs::SCORES]
-    ensures { length result ≡ 1024 }
-{
-    [0.0f64; jobs::SCORES]
-}
-
 // ---- what is printed
 
 // The search in the program's rooms; what it keeps is wanted afterwards.
@@ -61,8 +35,8 @@ fn search_in(image: &[u8], b: SearchBudget, scores: &[f64], kept: &mut [u64; KEP
     ensures kept_after { kept.new ≡ (search_rooms image.now b scores.now program_rooms).kept }
     ensures kept_len { length kept.new ≡ 2484 }
 {
-    let mut frames = frame_room();
-    let mut kept_scores = score_room();
+    let mut frames = [0u64; FRAMES];
+    let mut kept_scores = [0.0f64; KEPT_SCORES];
     searching::search(image, b, scores, &mut frames, kept, &mut kept_scores)
 }
 
@@ -76,7 +50,7 @@ fn answer_search(
     requires { Accepted image.now h }
     ensures { Put (answer_text image.now b scores.now) out.old 0 out.new result }
 {
-    let mut kept = kept_room();
+    let mut kept = [0u64; KEPT];
     let r = search_in(image, b, scores, &mut kept);
     if 0 < r.refusal {
         lines::put_refusal(out, 0, r.refusal, r.place)
@@ -89,34 +63,21 @@ fn answer_panel(image: &[u8], b: SearchBudget, scores: &[f64], out: &mut [u8]) -
     ensures { Put (answer_text image.now b scores.now) out.old 0 out.new result }
 {
     match graph::check_panel(image) {
-        image::Opened::Good(h) => answer_search(image, h, b, scores, out),
-        image::Opened::Refused(n) => lines::put_refusal(out, 0, n, 0),
+        Ok(h) => answer_search(image, h, b, scores, out),
+        Err(e) => lines::put_refusal(out, 0, e.number(), 0),
     }
-}
-
-fn answer_sound(job: &[u8], out: &mut [u8]) -> usize
-    requires { Sound job.now }
-    ensures { Put (answer_text (panel_in job.now) (budget_in job.now) (scores_in job.now)) out.old 0 out.new result }
-{
-    let panel = storage::word_at(job, 0) as usize;
-    let words = storage::word_at(job, 8) as usize;
-    let n = storage::word_at(job, 16) as usize;
-    let b = jobs::budget_of(job);
-    let mut scores = no_scores();
-    let start = jobs::HEAD;
-    let end = start + panel;
-    jobs::read_scores(job, end + 8 * words, n, &mut scores);
-    answer_panel(&job[start..end], b, &scores[..n], out)
 }
 
 fn answer(job: &[u8], out: &mut [u8]) -> usize
     ensures { Put (printed job.now) out.old 0 out.new result }
 {
-    if jobs::is_job(job) {
-        answer_sound(job, out)
-    } else {
-        lines::put_refusal(out, 0, 16, 0)
-    }
+    let Some(parts) = jobs::parse(job) else {
+        return lines::put_refusal(out, 0, jobs::NO_JOB, 0);
+    };
+    let n = parts.scores.len() / 8;
+    let mut scores = [0.0f64; jobs::SCORES];
+    jobs::read_scores(parts.scores, &mut scores[..n]);
+    answer_panel(parts.panel, parts.budget, &scores[..n], out)
 }
 
 // The room for what is printed: no job's answer is longer (proofs/Short.antt).

@@ -1,20 +1,20 @@
 -- Slots and scores blanked, and what is left of a tied list when its rest is.
-use mathlib.Core.Path.{◌≡◌, refl, sym, ap, ◌∙◌, subst}
-use mathlib.Core.Bool.{Bool, true, false, ◌||◌}
-use mathlib.Core.List.{List, [], ◌++◌, append-nil}
-use Prim.Native.Nat.{ℕ, zero, suc, ◌+◌, ◌-◌, ◌*◌, ◌≤◌, ◌<◌}
+use mathlib.Core.Path.{◌≡◌, refl, sym, ap, ap₂, ◌∙◌, subst}
+use mathlib.Core.Bool.{Bool, ◌||◌}
+use mathlib.Core.List.{List, [], ◌∷◌, ◌++◌, append-nil, append_assoc}
+use Prim.Native.Nat.{ℕ, zero, suc, ◌+◌, ◌-◌, ◌*◌, ◌≤◌}
 use native.Mathlib.Omega.{arith}
-use native.Mathlib.Nat.{add-mul, one-mul, zero-mul}
-use lib.ListN.{length, take, drop, set, replicate, length-set, length-replicate, drop_of_length-le}
-use lib.Seq.{drop-set-lt, drop-drop, take_at}
-use lib.Ieee as Ieee
-use lib.Ieee.{Float, binary64}
+use native.Mathlib.Nat.{add-mul, one-mul, suc-mul}
+use lib.ListN.{length, take, drop, replicate, length-drop, length-replicate, replicate-append-replicate, take-append-drop}
+use lib.Seq.{drop-drop, take_at, drop_at, length-take-le, drop-append-le, take-append-le}
+use lib.Ieee.{Float}
+use Rattle.std.specs.List.{list_any, range_with_len}
 use Rattle.ground.specs.Lists.{any}
 use Rattle.search.specs.Budget.{zero_score}
 use Rattle.search.specs.Keep.{has}
-use Rattle.slots.specs.Inner.{splice, part, same_words, slot_at, put_slot, slots_of, Held, same_held, blank, held_in, Beyond, Retained, Blanked, Pruned}
-use Rattle.slots.proofs.Words.{Cleared, cleared_none, cleared_more, cleared_all}
-use Rattle.slots.proofs.Slots.{slot_fits, length_put, length_held, held_take, held_put, drop_put}
+use Rattle.slots.specs.Inner.{splice, part, same_words, slot_at, slots_of, Held, same_held, blank, held_in, Beyond, Retained, Blanked, Pruned}
+use Rattle.slots.proofs.Words.{length_splice, drop_splice}
+use Rattle.slots.proofs.Slots.{length_held, held_take}
 
 pub beyond_none : {v n : ℕ} (xs : List ℕ) (ss : List Float) → Beyond v n xs ss xs ss
 beyond_none xs ss = record { longx = refl; longs = refl; restx = refl; rests = refl }
@@ -22,50 +22,56 @@ beyond_none xs ss = record { longx = refl; longs = refl; restx = refl; rests = r
 pub beyond_on : {v n : ℕ} {xs ys zs : List ℕ} {ss ts us : List Float} → Beyond v n xs ss ys ts → Beyond v n ys ts zs us → Beyond v n xs ss zs us
 beyond_on a b = record { longx = b.longx ∙ a.longx; longs = b.longs ∙ a.longs; restx = b.restx ∙ a.restx; rests = b.rests ∙ a.rests }
 
-pub record Blanking (v from n : ℕ) (xs₀ : List ℕ) (ss₀ : List Float) (xs : List ℕ) (ss : List Float) (i : ℕ) : Type 0 where
-  pub far : i ≤ n
-  pub beyond : Beyond v (from + n) xs₀ ss₀ xs ss
-  pub done : Cleared (blank v) from n (held_in v (from + n) xs₀ ss₀) (held_in v (from + n) xs ss) i
+-- words and scores cut at a slot
+held_join : (v a n : ℕ) (xs ys : List ℕ) (ss ts : List Float) → length xs ≡ a * v → length ss ≡ a → held_in v (a + n) (xs ++ ys) (ss ++ ts) ≡ held_in v a xs ss ++ held_in v n ys ts
+unfolding held_in
+held_join v zero n [] ys [] ts h k = let e : 0 + n ≡ n = omega arith in rw e
+held_join v zero n (x ∷ xs) ys ss ts h k = let z : 0 * v ≡ 0 = omega arith in absurd (let q : suc (length xs) ≡ 0 = h ∙ z in omega arith)
+held_join v zero n [] ys (s ∷ ss) ts h k = absurd (omega arith)
+held_join v (suc a) n xs ys [] ts h k = absurd (omega arith)
+held_join v (suc a) n xs ys (s ∷ ss) ts h k =
+    let e : suc a + n ≡ suc (a + n) = omega arith in
+    let l : length xs ≡ v + a * v = h ∙ rw suc-mul (omega arith) in
+    rw (e, take-append-le v xs ys (omega arith), drop-append-le v xs ys (omega arith))
+    (ap (λ (t : List Held). record { words = take v xs; score = s } ∷ t) (held_join v a n (drop v xs) ys ss ts (simp length-drop (omega arith)) (omega arith)))
 
-pub blanking_none : {v from n : ℕ} (xs : List ℕ) (ss : List Float) → Blanking v from n xs ss xs ss 0
-blanking_none xs ss = record { far = omega arith; beyond = beyond_none xs ss; done = cleared_none _ }
+held_front : (v n : ℕ) (xs : List ℕ) (ss : List Float) → n * v ≤ length xs → n ≤ length ss → held_in v n (take (n * v) xs) (take n ss) ≡ held_in v n xs ss
+unfolding held_in
+held_front v n xs ss h k =
+    let e : n + 0 ≡ n = omega arith in
+    let j = held_join v n 0 (take (n * v) xs) (drop (n * v) xs) (take n ss) (drop n ss) (length-take-le (n * v) xs h) (length-take-le n ss k) in
+    sym (append-nil (held_in v n (take (n * v) xs) (take n ss))) ∙ sym j ∙ rw (e, take-append-drop (n * v) xs, take-append-drop n ss)
 
-module _ {v from n : ℕ} {xs₀ : List ℕ} {ss₀ : List Float} {xs : List ℕ} {ss : List Float} {i : ℕ} where
-  pub blanking_more : {xs' : List ℕ} → (from + n) * v ≤ length xs₀ → from + n ≤ length ss₀ → Blanking v from n xs₀ ss₀ xs ss i → i < n
-      → xs' ≡ put_slot v xs (from + i) (replicate v 0) → Blanking v from n xs₀ ss₀ xs' (set ss (from + i) (Ieee.of_bits binary64 0)) (i + 1)
-  blanking_more {xs' = xs'} hx hs p l q =
-      let hx' : (from + n) * v ≤ length xs = rw p.beyond.longx hx in
-      let hs' : from + n ≤ length ss = rw p.beyond.longs hs in
-      let k : from + i < from + n = omega arith in
-      let lw : length {A = ℕ} (replicate v 0) ≡ v = length-replicate v 0 in
-      let z : Float = Ieee.of_bits binary64 0 in
-      let zero_is : Ieee.of_bits binary64 0 ≡ zero_score = unfold Ieee.of_bits in refl in
-      let s : held_in v (from + n) xs' (set ss (from + i) z) ≡ set (held_in v (from + n) xs ss) (from + i) (blank v) =
-      rw (q, zero_is) (held_put v (from + n) (from + i) xs ss (replicate v 0) zero_score k hx' hs' lw) in
-      record {
-        far = omega arith;
-        beyond = record {
-          longx = rw q (length_put v xs (from + i) (replicate v 0) lw (slot_fits (from + i) (from + n) v (length xs) k hx')) ∙ p.beyond.longx;
-          longs = length-set ss (from + i) z ∙ p.beyond.longs;
-          restx = rw q (drop_put v (from + n) (from + i) xs (replicate v 0) k hx' lw) ∙ p.beyond.restx;
-          rests = drop-set-lt (from + n) ss (from + i) z k ∙ p.beyond.rests;
-        };
-        done = rw s (cleared_more (rw length_held (omega arith)) p.done l);
-      }
+held_zeros : (v n : ℕ) (xs : List ℕ) (ss : List Float) → held_in v n (replicate (n * v) 0 ++ xs) (replicate n zero_score ++ ss) ≡ replicate n (blank v)
+unfolding held_in
+held_zeros v zero xs ss = refl
+held_zeros v (suc n) xs ss =
+    let e : suc n * v ≡ v + n * v = rw suc-mul (omega arith) in
+    let r : List ℕ = replicate (n * v) 0 ++ xs in
+    rw (e, ← replicate-append-replicate {A = ℕ} v (n * v) 0, append_assoc, take_at (replicate v 0) r v (length-replicate v 0), drop_at (replicate v 0) r v (length-replicate v 0))
+    (ap (λ (t : List Held). blank v ∷ t) (held_zeros v n xs ss))
 
-  pub blanking_fits : (from + n) * v ≤ length xs₀ → Blanking v from n xs₀ ss₀ xs ss i → i < n → (from + i) * v + v ≤ length xs
-  blanking_fits h p l = slot_fits (from + i) (from + n) v (length xs) (omega arith) (rw p.beyond.longx h)
-
-  pub blanking_score : from + n ≤ length ss₀ → Blanking v from n xs₀ ss₀ xs ss i → i < n → from + i < length ss
-  blanking_score h p l = omega (arith, p.beyond.longs)
-
-  pub blanking_all : Blanking v from n xs₀ ss₀ xs ss i → n ≤ i → Blanked v from n xs₀ ss₀ xs ss
-  unfolding splice
-  blanking_all p l =
-      let L : List Held = held_in v (from + n) xs₀ ss₀ in
-      let e : from + length (replicate n (blank v)) ≡ from + n = rw length-replicate in
-      let d : drop (from + n) L ≡ [] = drop_of_length-le L {i = from + n} (rw length_held (omega arith)) in
-      record { beyond = p.beyond; done = cleared_all p.done l ∙ rw (e, d, append-nil, held_take v from (from + n) xs₀ ss₀ (omega arith)) }
+pub blanked : {v from n : ℕ} {xs zs : List ℕ} {ss us : List Float} → (from + n) * v ≤ length xs → from + n ≤ length ss
+    → zs ≡ splice xs (from * v) (replicate (n * v) 0) → us ≡ splice ss from (replicate n zero_score) → Blanked v from n xs ss zs us
+unfolding splice
+blanked {v} {from} {n} {xs} {zs} {ss} {us} hx hs ex es =
+    let m : (from + n) * v ≡ from * v + n * v = add-mul from n v in
+    let lx : length {A = ℕ} (replicate (n * v) 0) ≡ n * v = length-replicate (n * v) 0 in
+    let ls : length (replicate n zero_score) ≡ n = length-replicate n zero_score in
+    let fx : length (take (from * v) xs) ≡ from * v = length-take-le (from * v) xs (omega arith) in
+    let fs : length (take from ss) ≡ from = length-take-le from ss (omega arith) in
+    let ws : List ℕ = drop (from * v + n * v) xs in
+    let ts : List Float = drop (from + n) ss in
+    record {
+      beyond = record {
+        longx = ap length ex ∙ length_splice xs (from * v) (replicate (n * v) 0) (rw lx (omega arith));
+        longs = ap length es ∙ length_splice ss from (replicate n zero_score) (rw ls hs);
+        restx = rw (ex, m) (drop_splice xs (from * v) (n * v) (replicate (n * v) 0) lx (omega arith));
+        rests = rw es (drop_splice ss from n (replicate n zero_score) ls hs);
+      };
+      done = rw (ex, es, lx, ls) (held_join v from n (take (from * v) xs) (replicate (n * v) 0 ++ ws) (take from ss) (replicate n zero_score ++ ts) fx fs
+          ∙ ap₂ (λ (s t : List Held). s ++ t) (held_front v from xs ss (omega arith) (omega arith)) (held_zeros v n ws ts));
+    }
 
 -- ---- what is left when the rest of the tied is blanked
 pub pruned : {v n : ℕ} {new w : Float} {xs₀ : List ℕ} {ss₀ : List Float} {xs₁ : List ℕ} {ss₁ : List Float} {xs : List ℕ} {ss : List Float} {r : ℕ}
@@ -99,37 +105,15 @@ unfolding held_in slots_of any
 has_held v zero xs ss s = refl
 has_held v (suc n) xs ss s = ap (λ (b : Bool). same_words (take v xs) s.words || b) (has_held v n (drop v xs) (drop 1 ss) s)
 
--- slots 1 to count are looked through for the words ws; i are done
-pub record Looking (v count : ℕ) (xs ws : List ℕ) (i : ℕ) : Type 0 where
-  pub far : i ≤ count
-  pub left : has same_words ws (slots_of v (count - i) (drop ((i + 1) * v) xs)) ≡ has same_words ws (slots_of v count (drop v xs))
-
-pub looking_none : {v count : ℕ} {xs ws : List ℕ} → Looking v count xs ws 0
-looking_none {v} {count} {xs} {ws} =
-    let e : count - 0 ≡ count = omega arith in
-    let f : (0 + 1) * v ≡ v = rw (add-mul, zero-mul, one-mul) (omega arith) in
-    record { far = omega arith; left = rw (e, f) }
-
-look : (v count : ℕ) (xs ws : List ℕ) (i : ℕ) → i < count → has same_words ws (slots_of v (count - i) (drop ((i + 1) * v) xs))
-    ≡ (same_words (slot_at v xs (i + 1)) ws || has same_words ws (slots_of v (count - (i + 1)) (drop ((i + 1 + 1) * v) xs)))
+-- the slots behind the a-th, one after the other
+looked : (v n a : ℕ) (xs ws : List ℕ) → list_any (λ i. same_words (slot_at v xs (i + 1)) ws) (range_with_len a n) ≡ has same_words ws (slots_of v n (drop ((a + 1) * v) xs))
 unfolding slots_of slot_at part any
-look v count xs ws i l =
-    let e : count - i ≡ suc (count - (i + 1)) = omega arith in
-    let f : (i + 1 + 1) * v ≡ (i + 1) * v + v = rw (add-mul (i + 1) 1 v, one-mul) in
-    rw (e, f, ← drop-drop v ((i + 1) * v) xs)
+looked v zero a xs ws = refl
+looked v (suc n) a xs ws =
+    let f : (a + 1 + 1) * v ≡ (a + 1) * v + v = rw (add-mul (a + 1) 1 v, one-mul) in
+    rw (drop-drop v ((a + 1) * v) xs, ← f) (ap (λ (b : Bool). same_words (take v (drop ((a + 1) * v) xs)) ws || b) (looked v n (a + 1) xs ws))
 
-module _ {v count : ℕ} {xs ws : List ℕ} {i : ℕ} where
-  pub looking_more : {b : Bool} → Looking v count xs ws i → i < count → b ≡ same_words (slot_at v xs (i + 1)) ws → b ≡ false → Looking v count xs ws (i + 1)
-  looking_more p l e q = record { far = omega arith; left = sym (look v count xs ws i l ∙ rw (sym e ∙ q)) ∙ p.left }
-
-  pub looking_found : {b : Bool} → Looking v count xs ws i → i < count → b ≡ same_words (slot_at v xs (i + 1)) ws → b ≡ true → true ≡ has same_words ws (slots_of v count (drop v xs))
-  looking_found p l e q = sym (look v count xs ws i l ∙ rw (sym e ∙ q)) ∙ p.left
-
-  pub looking_fits : count * v + v ≤ length xs → Looking v count xs ws i → i < count → (i + 1) * v + v ≤ length xs
-  looking_fits h p l = slot_fits (i + 1) (count + 1) v (length xs) (omega arith) (rw (add-mul, one-mul) h)
-
-  pub looking_all : Looking v count xs ws i → count ≤ i → false ≡ has same_words ws (slots_of v count (drop v xs))
-  unfolding slots_of any
-  looking_all p l =
-      let e : count - i ≡ 0 = omega arith in
-      rw e at p.left
+pub looked_all : {r : Bool} (v n : ℕ) (xs ws : List ℕ) → r ≡ list_any (λ i. same_words (slot_at v xs (i + 1)) ws) (range_with_len 0 n) → r ≡ has same_words ws (slots_of v n (drop v xs))
+looked_all v n xs ws e =
+    let f : (0 + 1) * v ≡ v = omega arith in
+    e ∙ looked v n 0 xs ws ∙ rw f

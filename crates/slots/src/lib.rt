@@ -1,13 +1,13 @@
 // Slots of v words in a lent room, and a score for each.
 #![tactic(auto)]
 
-ghost use Rattle.std.specs.Prelude.{◌≡◌, ◌⊎◌, ◌+◌, ◌*◌, ◌≤◌, length, drop, replicate};
+ghost use Rattle.std.specs.Prelude.{◌≡◌, ◌+◌, ◌*◌, ◌≤◌, length, drop, replicate};
 ghost use Rattle.std.specs.Float.Ieee as Ieee;
 ghost use Rattle.search.specs.Keep.{has, tied_to};
-ghost use Rattle.slots.specs.Inner.{splice, part, same_words, slot_at, put_slot, slots_of, Retained, Blanked, Pruned};
+ghost use Rattle.slots.specs.Inner.{same_words, slot_at, put_slot, slots_of, Retained, Blanked, Pruned};
 
 // An assignment's slot, and its score.
-#[derive(Clone, Copy)]
+#[derive(Clone, Copy, PartialEq, Debug)]
 pub struct Scored {
     pub slot: usize,
     pub objective: f64,
@@ -28,54 +28,13 @@ impl Scored {
     }
 }
 
-// n words from `from`, copied to `to`, first word first.
-fn copy_words(room: &mut [u64], from: usize, to: usize, n: usize)
-    requires { (from + n ≤ length room.old) × (to + n ≤ length room.old) × ((to ≤ from) ⊎ (from + n ≤ to)) }
-    ensures { room.new ≡ splice room.old to (part from n room.old) }
-{
-    let mut i: usize = 0;
-    while i < n {
-        let x = room[from + i];
-        room[to + i] = x;
-        i += 1;
-    }
-}
-
-// Whether n words from a are those from b.
-fn same_words(room: &[u64], a: usize, b: usize, n: usize) -> bool
-    requires { (a + n ≤ length room.now) × (b + n ≤ length room.now) }
-    ensures { result ≡ same_words (part a n room.now) (part b n room.now) }
-{
-    let mut i: usize = 0;
-    while i < n {
-        if room[a + i] != room[b + i] {
-            return false;
-        }
-        i += 1;
-    }
-    true
-}
-
-// n words from a are zeroed.
-fn clear_words(room: &mut [u64], a: usize, n: usize)
-    requires { a + n ≤ length room.old }
-    ensures { room.new ≡ splice room.old a (replicate n 0) }
-{
-    let mut i: usize = 0;
-    while i < n {
-        room[a + i] = 0;
-        i += 1;
-    }
-}
-
 // Slot `from` copied to slot `to`.
 pub fn copy_slot(kept: &mut [u64], from: usize, to: usize, v: usize)
     requires { (from * v + v ≤ length kept.old) × (to * v + v ≤ length kept.old) }
     ensures { kept.new ≡ put_slot v kept.old to (slot_at v kept.old from) }
 {
-    let a = from * v;
-    let b = to * v;
-    copy_words(kept, a, b, v);
+    let at = from * v;
+    kept.copy_within(at..at + v, to * v);
 }
 
 // Whether two slots have the same words.
@@ -85,7 +44,7 @@ fn same_slot(kept: &[u64], a: usize, b: usize, v: usize) -> bool
 {
     let i = a * v;
     let j = b * v;
-    same_words(kept, i, j, v)
+    kept[i..i + v] == kept[j..j + v]
 }
 
 // A slot is zeroed.
@@ -93,8 +52,8 @@ pub fn clear_slot(kept: &mut [u64], slot: usize, v: usize)
     requires { slot * v + v ≤ length kept.old }
     ensures { kept.new ≡ put_slot v kept.old slot (replicate v 0) }
 {
-    let a = slot * v;
-    clear_words(kept, a, v);
+    let at = slot * v;
+    kept[at..at + v].fill(0);
 }
 
 // Keeps, in order and at the front, those of the first `count` slots whose score ties with `new`, with their scores; gives how many.
@@ -110,8 +69,7 @@ fn retain(
     ensures { Retained v count new width kept.old scores.old kept.new scores.new result }
 {
     let mut k: usize = 0;
-    let mut i: usize = 0;
-    while i < count {
+    for i in 0..count {
         let s = Scored {
             slot: i,
             objective: scores[i],
@@ -121,7 +79,6 @@ fn retain(
             scores[k] = s.objective;
             k += 1;
         }
-        i += 1;
     }
     k
 }
@@ -131,13 +88,9 @@ pub fn blank(kept: &mut [u64], scores: &mut [f64], from: usize, n: usize, v: usi
     requires { ((from + n) * v ≤ length kept.old) × (from + n ≤ length scores.old) }
     ensures { Blanked v from n kept.old scores.old kept.new scores.new }
 {
-    let mut i: usize = 0;
-    while i < n {
-        let at = from + i;
-        clear_slot(kept, at, v);
-        scores[at] = 0.0;
-        i += 1;
-    }
+    let end = from + n;
+    kept[from * v..end * v].fill(0);
+    scores[from..end].fill(0.0);
 }
 
 // `retain`, with what it frees zeroed.
@@ -153,8 +106,7 @@ pub fn prune(
     ensures { Pruned v count new width kept.old scores.old kept.new scores.new result }
 {
     let r = retain(kept, scores, count, new, width, v);
-    let n = count - r;
-    blank(kept, scores, r, n, v);
+    blank(kept, scores, r, count - r, v);
     r
 }
 
@@ -163,13 +115,5 @@ pub fn holds(kept: &[u64], count: usize, spare: usize, v: usize) -> bool
     requires { (count * v + v ≤ length kept.now) × (spare * v + v ≤ length kept.now) }
     ensures { result ≡ has same_words (slot_at v kept.now spare) (slots_of v count (drop v kept.now)) }
 {
-    let mut i: usize = 0;
-    while i < count {
-        let slot = i + 1;
-        if same_slot(kept, slot, spare, v) {
-            return true;
-        }
-        i += 1;
-    }
-    false
+    (0..count).any(|i| same_slot(kept, i + 1, spare, v))
 }

@@ -5,6 +5,7 @@ use native.Mathlib.Decide.{dec_le}
 use native.Mathlib.Numerals.{add-one}
 use mathlib.Core.Path.{◌≡◌, refl, sym, ap, ap₂, ◌∙◌, subst}
 use mathlib.Core.Bool.{Bool, true, false}
+use mathlib.Core.Logic.{◌⊎◌, inl, inr}
 use mathlib.Core.List.{List, [], ◌∷◌, ◌++◌}
 use lib.Dec.{leb, eqb}
 use lib.ListN.{length, drop, get_or, set, length-set}
@@ -27,14 +28,14 @@ use Rattle.spell.proofs.Crops.{crop_append}
 
 -- ---- a piece, letter by letter
 
-pub record Copying (w xs ys : List ℕ) (to from end at i : ℕ) : Type 0 where
+pub record Copying (w xs ys : List ℕ) (to from end i : ℕ) : Type 0 where
+  pub above : from ≤ i
   pub within : i ≤ end
   pub long : length ys ≡ length xs
-  pub room : at + (end - i) ≤ length xs
-  pub rest : sets ys at (part w i (end - i)) ≡ sets xs to (part w from (end - from))
+  pub rest : sets ys (to + (i - from)) (part w i (end - i)) ≡ sets xs to (part w from (end - from))
 
-pub copying_start : (w xs : List ℕ) (to from end : ℕ) → from ≤ end → to + (end - from) ≤ length xs → Copying w xs xs to from end to from
-copying_start w xs to from end h k = record { within = h; long = refl; room = k; rest = refl }
+pub copying_start : (w xs : List ℕ) (to from end : ℕ) → from ≤ end → Copying w xs xs to from end from
+copying_start w xs to from end h = let z : to + (from - from) ≡ to = omega arith in record { above = omega arith; within = h; long = refl; rest = rw z }
 
 part_next : (w : List ℕ) (i end : ℕ) → i < end → end ≤ length w → part w i (end - i) ≡ get_or w i 0 ∷ part w (i + 1) (end - (i + 1))
 part_next w i end h k =
@@ -42,24 +43,25 @@ part_next w i end h k =
     let f : i < length w = omega arith in
     rw (e, drop-cons w i 0 f, add-one)
 
-module _ (d : List ℕ) (first n : ℕ) (r : Bool) (room : first + n ≤ length d) (xs ys : List ℕ) (to from end at i : ℕ) (few : end ≤ n)
-    (so : Copying (oriented r (part d first n)) xs ys to from end at i) where
-  pub copying_more : (x : ℕ) → i < end → x ≡ get_or (oriented r (part d first n)) i 0 → Copying (oriented r (part d first n)) xs (set ys at x) to from end (at + 1) (i + 1)
+module _ (d : List ℕ) (first n : ℕ) (r : Bool) (room : first + n ≤ length d) (xs ys : List ℕ) (to from end i : ℕ) (few : end ≤ n)
+    (so : Copying (oriented r (part d first n)) xs ys to from end i) where
+  pub copying_more : (x : ℕ) → i < end → x ≡ get_or (oriented r (part d first n)) i 0 → Copying (oriented r (part d first n)) xs (set ys (to + (i - from)) x) to from end (i + 1)
   copying_more x lt e =
       let l = oriented_length r (part d first n) ∙ part_length d first n room in
       let q = part_next (oriented r (part d first n)) i end lt (omega arith) in
-      let k = so.room in
+      let a = so.above in
+      let next : to + (i + 1 - from) ≡ suc (to + (i - from)) = omega arith in
       record {
+        above = omega arith;
         within = omega arith;
-        long = length-set ys at x ∙ so.long;
-        room = omega arith;
-        rest = rw (e, add-one) (sym (ap (sets ys at) q ∙ rw add-one)) ∙ so.rest;
+        long = length-set ys (to + (i - from)) x ∙ so.long;
+        rest = rw (next, e) (sym (ap (sets ys (to + (i - from))) q)) ∙ so.rest;
       }
 
-pub copying_done : (w xs ys : List ℕ) (to from end at i : ℕ) → Copying w xs ys to from end at i → end ≤ i → ys ≡ sets xs to (part w from (end - from))
-copying_done w xs ys to from end at i so le =
+pub copying_done : (w xs ys : List ℕ) (to from end i : ℕ) → Copying w xs ys to from end i → end ≤ i → ys ≡ sets xs to (part w from (end - from))
+copying_done w xs ys to from end i so le =
     let z : end - i ≡ 0 = omega arith in
-    let e : sets ys at (part w i (end - i)) ≡ ys = rw z in
+    let e : sets ys (to + (i - from)) (part w i (end - i)) ≡ ys = rw z in
     sym e ∙ so.rest
 
 -- ---- the route of a slot
@@ -83,16 +85,17 @@ module _ (ws : List ℕ) (slot at i : ℕ) (so : Slots ws slot at i) where
   more : 0 < get_or ws 1 0 - i
   more = let a = so.few in let b = so.some in omega arith
 
-  pub slots_more : (k : ℕ) → i < slot → RouteAt ws at k → Slots ws slot (at + 1 + 4 * k) (i + 1)
+  pub slots_more : (k : ℕ) → i < slot → RouteAt ws at k → Slots ws slot (at + (1 + 4 * k)) (i + 1)
   slots_more k lt r =
+      let q : at + (1 + 4 * k) ≡ at + 1 + 4 * k = omega arith in
       let a : get_or ws 1 0 - i - 1 ≡ get_or ws 1 0 - (i + 1) = omega arith in
       let b : slot - i ≡ suc (slot - (i + 1)) = omega arith in
       let next = routes_next ws at (get_or ws 1 0 - i) k more r.count in
       record {
         few = omega arith;
         some = so.some;
-        parsed = rw (← a) (parsed_next so.parsed more r.count);
-        rest = rw (← a) (sym (ap₂ (λ (l : List Route) (n : ℕ). get_or l n []) next b)) ∙ so.rest;
+        parsed = rw (q, ← a) (parsed_next so.parsed more r.count);
+        rest = rw (q, ← a) (sym (ap₂ (λ (l : List Route) (n : ℕ). get_or l n []) next b)) ∙ so.rest;
       }
 
   pub slots_done : slot ≤ i → SlotAt ws slot at
@@ -102,39 +105,58 @@ module _ (ws : List ℕ) (slot at i : ℕ) (so : Slots ws slot at i) where
       let next = routes_next ws at (get_or ws 1 0 - i) (get_or ws at 0) more refl in
       record { room = slots_room; is = sym (ap₂ (λ (l : List Route) (n : ℕ). get_or l n []) next b) ∙ so.rest }
 
+-- ---- the segments from number i on of those that stand from a place on
+
+unfoldable pub from_on : List ℕ → ℕ → ℕ → ℕ → Route
+from_on ws at left i = segments_of (left - i) (drop (at + 4 * i) ws)
+
+module _ (ws : List ℕ) (at left : ℕ) where
+  from_start : from_on ws at left 0 ≡ segments_of left (drop at ws)
+  unfolding from_on
+  from_start =
+      let a : left - 0 ≡ left = omega arith in
+      let b : at + 4 * 0 ≡ at = omega arith in
+      rw (a, b)
+
+  module _ (i : ℕ) where
+    from_next : (s : Segment) → i < left → s ≡ segment_of (drop (at + 4 * i) ws) → from_on ws at left i ≡ s ∷ from_on ws at left (i + 1)
+    unfolding from_on
+    from_next s lt e =
+        let a : left - i - 1 ≡ left - (i + 1) = omega arith in
+        let b : at + 4 * i + 4 ≡ at + 4 * (i + 1) = omega arith in
+        segments_next ws (at + 4 * i) (left - i) (omega arith) ∙ rw (a, b, e)
+
+    from_none : left ≤ i → from_on ws at left i ≡ []
+    unfolding from_on
+    from_none le = segments_none ws (at + 4 * i) (left - i) (omega arith)
+
 -- ---- whether a route has so many letters
 
-pub record Fewer (ws : List ℕ) (at left to place n more : ℕ) : Type 0 where
-  pub same : place + 4 * n ≡ at + 4 * left
-  pub rest : leb more (sizes (segments_of n (drop place ws))) ≡ leb to (sizes (segments_of left (drop at ws)))
+pub record Fewer (ws : List ℕ) (at left to i more : ℕ) : Type 0 where
+  pub rest : leb more (sizes (from_on ws at left i)) ≡ leb to (sizes (segments_of left (drop at ws)))
 
-pub fewer_start : (ws : List ℕ) (at left to : ℕ) → Fewer ws at left to at left to
-fewer_start ws at left to = record { same = refl; rest = refl }
+pub fewer_start : (ws : List ℕ) (at left to : ℕ) → Fewer ws at left to 0 to
+fewer_start ws at left to = record { rest = ap (λ (r : Route). leb to (sizes r)) (from_start ws at left) }
 
-leb_off : (a m n : ℕ) → leb (a - min a m) n ≡ leb a (m + n)
+leb_off : (a m n : ℕ) → leb (a - m) n ≡ leb a (m + n)
 leb_off a m n = go (dec_le a (m + n))
   where
-    go : Dec (a ≤ m + n) → leb (a - min a m) n ≡ leb a (m + n)
-    go (yes h) = le-leb (a - min a m) n (omega arith) ∙ sym (le-leb a (m + n) h)
-    go (no h) = lt-leb (a - min a m) n (omega arith) ∙ sym (lt-leb a (m + n) (omega arith))
+    go : Dec (a ≤ m + n) → leb (a - m) n ≡ leb a (m + n)
+    go (yes h) = le-leb (a - m) n (omega arith) ∙ sym (le-leb a (m + n) h)
+    go (no h) = lt-leb (a - m) n (omega arith) ∙ sym (lt-leb a (m + n) (omega arith))
 
 sizes_next : (s : Segment) (r l : Route) → l ≡ s ∷ r → sizes l ≡ size_of s + sizes r
 unfolding sizes
 sizes_next s r l e = rw e
 
-module _ (ws : List ℕ) (at left to place n more : ℕ) (so : Fewer ws at left to place n more) where
-  pub fewer_more : (s : Segment) (m a : ℕ) → 0 < n → s ≡ segment_of (drop place ws) → m ≡ size_of s → a ≡ min more m → Fewer ws at left to (place + 4) (n - 1) (more - a)
-  fewer_more s m a lt es em ea =
-      let q : sizes (segments_of n (drop place ws)) ≡ m + sizes (segments_of (n - 1) (drop (place + 4) ws)) = step in
-      let k = so.same in
-      record { same = omega arith; rest = rw ea (leb_off more m (sizes (segments_of (n - 1) (drop (place + 4) ws)))) ∙ ap (leb more) (sym q) ∙ so.rest }
-    where
-      step : sizes (segments_of n (drop place ws)) ≡ m + sizes (segments_of (n - 1) (drop (place + 4) ws))
-      step = sizes_next (segment_of (drop place ws)) (segments_of (n - 1) (drop (place + 4) ws)) (segments_of n (drop place ws)) (segments_next ws place n lt) ∙ ap (λ (x : ℕ). x + sizes (segments_of (n - 1) (drop (place + 4) ws))) (sym (em ∙ ap size_of es))
+module _ (ws : List ℕ) (at left to i more : ℕ) (so : Fewer ws at left to i more) where
+  pub fewer_more : (s : Segment) (m : ℕ) → i < left → s ≡ segment_of (drop (at + 4 * i) ws) → m ≡ size_of s → Fewer ws at left to (i + 1) (more - m)
+  fewer_more s m lt es em =
+      record { rest = leb_off more m (sizes (from_on ws at left (i + 1))) ∙ ap (leb more) (ap (λ (x : ℕ). x + sizes (from_on ws at left (i + 1))) em ∙ sym (sizes_next s (from_on ws at left (i + 1)) (from_on ws at left i) (from_next ws at left i s lt es))) ∙ so.rest }
 
-  pub fewer_done : n ≤ 0 → eqb more 0 ≡ leb to (sizes (segments_of left (drop at ws)))
+  pub fewer_done : left ≤ i → eqb more 0 ≡ leb to (sizes (segments_of left (drop at ws)))
   unfolding sizes
-  fewer_done z = ends more ∙ ap (λ (r : Route). leb more (sizes r)) (sym (segments_none ws place n z)) ∙ so.rest
+  fewer_done z = ends more ∙ ap (λ (r : Route). leb more (sizes r)) (sym (from_none ws at left i z)) ∙ so.rest
     where
       ends : (x : ℕ) → eqb x 0 ≡ leb x 0
       ends zero = refl
@@ -143,15 +165,12 @@ module _ (ws : List ℕ) (at left to place n more : ℕ) (so : Fewer ws at left 
 -- ---- 41, 37
 
 module _ (ws : List ℕ) (slot from to room : ℕ) where
-  pub crop_slot : get_or ws 1 0 ≤ slot → 41 ≡ crop_by ws slot from to room
+  pub crop_empty : (get_or ws 1 0 ≤ slot) ⊎ ((slot < get_or ws 1 0) × (to ≤ from)) → 41 ≡ crop_by ws slot from to room
   unfolding crop_by
-  crop_slot h = rw (le-ltb slot (get_or ws 1 0) h)
+  crop_empty (inl h) = rw (le-ltb slot (get_or ws 1 0) h)
+  crop_empty (inr (lt, h)) = rw (lt-ltb slot (get_or ws 1 0) lt, le-ltb from to h)
 
   module _ (lt : slot < get_or ws 1 0) where
-    pub crop_empty : to ≤ from → 41 ≡ crop_by ws slot from to room
-    unfolding crop_by
-    crop_empty h = rw (lt-ltb slot (get_or ws 1 0) lt, le-ltb from to h)
-
     module _ (some : from < to) (at left : ℕ) (here : SlotAt ws slot at) (count : RouteAt ws at left) (b : Bool) (eb : b ≡ leb to (sizes (segments_of left (drop (at + 1) ws)))) where
       long : leb to (sizes (get_or (assignment_of ws).routes slot [])) ≡ b
       long = sym (eb ∙ ap (λ (r : Route). leb to (sizes r)) (ap (λ (n : ℕ). segments_of n (drop (at + 1) ws)) count.count ∙ here.is))
@@ -173,18 +192,19 @@ module _ (ws : List ℕ) (slot from to room : ℕ) where
 parts : (next lo hi a b : ℕ) → a ≤ b → b ≤ hi → a ≤ lo → lo + b ≤ hi + a → next + (b - a) + (hi - b - (lo - a)) ≡ next + (hi - lo)
 parts next lo hi a b h k l m = omega arith
 
-pub record Cropping (bases d ws xs ys : List ℕ) (at left from to next lo hi place n : ℕ) : Type 0 where
-  pub same : place + 4 * n ≡ at + 4 * left
+pub record Cropping (bases d ws xs ys : List ℕ) (at left from to next lo hi i : ℕ) : Type 0 where
   pub long : length ys ≡ length xs
   pub order : lo ≤ hi
-  pub far : hi ≤ sizes (segments_of n (drop place ws))
+  pub far : hi ≤ sizes (from_on ws at left i)
   pub room : next + (hi - lo) ≤ length xs
-  pub inside : Each (Inside bases d) (segments_of n (drop place ws))
-  pub rest : sets ys next (crop lo hi (route_by bases d (segments_of n (drop place ws)))) ≡ sets xs 0 (crop from to (route_by bases d (segments_of left (drop at ws))))
+  pub inside : Each (Inside bases d) (from_on ws at left i)
+  pub rest : sets ys next (crop lo hi (route_by bases d (from_on ws at left i))) ≡ sets xs 0 (crop from to (route_by bases d (segments_of left (drop at ws))))
 
 pub cropping_start : (bases d ws xs : List ℕ) (at left from to : ℕ) → Each (Inside bases d) (segments_of left (drop at ws)) → from ≤ to → to ≤ sizes (segments_of left (drop at ws)) → to - from ≤ length xs
-    → Cropping bases d ws xs xs at left from to 0 from to at left
-cropping_start bases d ws xs at left from to i o f r = record { same = refl; long = refl; order = o; far = f; room = omega arith; inside = i; rest = refl }
+    → Cropping bases d ws xs xs at left from to 0 from to 0
+cropping_start bases d ws xs at left from to i o f r =
+    let e = from_start ws at left in
+    record { long = refl; order = o; far = rw e f; room = omega arith; inside = subst (λ (r : Route). Each (Inside bases d) r) (sym e) i; rest = rw e }
 
 route_by_next : (bases d : List ℕ) (s : Segment) (r l : Route) → l ≡ s ∷ r → route_by bases d l ≡ letters_by bases d s ++ route_by bases d r
 unfolding route_by
@@ -203,12 +223,16 @@ pub segment-put : (bases d : List ℕ) (s : Segment) (xs ys : List ℕ) (to n fr
 unfolding letters_by
 segment-put bases d s xs ys to n from end e q = q ∙ ap (λ (m : ℕ). sets xs to (part (oriented s.reverse (part d (get_or bases s.source 0 + s.start) m)) from (end - from))) e
 
-module _ (bases d ws xs ys : List ℕ) (at left from to next lo hi place n : ℕ) (so : Cropping bases d ws xs ys at left from to next lo hi place n)
-    (lt : 0 < n) (s : Segment) (es : s ≡ segment_of (drop place ws)) where
-  cons : segments_of n (drop place ws) ≡ s ∷ segments_of (n - 1) (drop (place + 4) ws)
-  cons = segments_next ws place n lt ∙ rw (← es)
+module _ (bases d ws xs ys : List ℕ) (at left from to next lo hi i : ℕ) (so : Cropping bases d ws xs ys at left from to next lo hi i)
+    (lt : i < left) (s : Segment) (es : s ≡ segment_of (drop (at + 4 * i) ws)) where
+  behind : Route
+  behind = from_on ws at left (i + 1)
 
-  both_inside : Inside bases d s × Each (Inside bases d) (segments_of (n - 1) (drop (place + 4) ws))
+  cons : from_on ws at left i ≡ s ∷ behind
+  unfolding behind
+  cons = from_next ws at left i s lt es
+
+  both_inside : Inside bases d s × Each (Inside bases d) behind
   both_inside = subst (λ (r : Route). Each (Inside bases d) r) cons so.inside
 
   pub segment_inside : Inside bases d s
@@ -226,15 +250,14 @@ module _ (bases d ws xs ys : List ℕ) (at left from to next lo hi place n : ℕ
       piece_fits = let o = so.order in let r = so.room in let l = so.long in omega arith
 
       pub cropping_more : (zs : List ℕ) → zs ≡ sets ys next (part (letters_by bases d s) a (b - a))
-          → Cropping bases d ws xs zs at left from to (next + (b - a)) (lo - a) (hi - b) (place + 4) (n - 1)
+          → Cropping bases d ws xs zs at left from to (next + (b - a)) (lo - a) (hi - b) (i + 1)
+      unfolding behind
       cropping_more zs ez =
           let o = so.order in
           let r = so.room in
           let f = so.far in
-          let k = so.same in
-          let q : sizes (segments_of n (drop place ws)) ≡ m + sizes (segments_of (n - 1) (drop (place + 4) ws)) = sizes_next s (segments_of (n - 1) (drop (place + 4) ws)) (segments_of n (drop place ws)) cons ∙ ap (λ (x : ℕ). x + sizes (segments_of (n - 1) (drop (place + 4) ws))) (sym em) in
+          let q : sizes (from_on ws at left i) ≡ m + sizes behind = sizes_next s behind (from_on ws at left i) cons ∙ ap (λ (x : ℕ). x + sizes behind) (sym em) in
           record {
-            same = omega arith;
             long = ap length ez ∙ length-sets ys next piece' ∙ so.long;
             order = omega arith;
             far = omega arith;
@@ -247,7 +270,7 @@ module _ (bases d ws xs ys : List ℕ) (at left from to next lo hi place n : ℕ
           u = letters_by bases d s
 
           v : List ℕ
-          v = route_by bases d (segments_of (n - 1) (drop (place + 4) ws))
+          v = route_by bases d behind
 
           piece' : List ℕ
           piece' = part u a (b - a)
@@ -258,20 +281,20 @@ module _ (bases d ws xs ys : List ℕ) (at left from to next lo hi place n : ℕ
           piece_long : length piece' ≡ b - a
           piece_long = let o = piece_order in let w = piece_few in let l = u_long in part_length u a (b - a) (omega arith)
 
-          whole : route_by bases d (segments_of n (drop place ws)) ≡ u ++ v
-          whole = route_by_next bases d s (segments_of (n - 1) (drop (place + 4) ws)) (segments_of n (drop place ws)) cons
+          whole : route_by bases d (from_on ws at left i) ≡ u ++ v
+          whole = route_by_next bases d s behind (from_on ws at left i) cons
 
-          cut : crop lo hi (route_by bases d (segments_of n (drop place ws))) ≡ piece' ++ crop (lo - a) (hi - b) v
+          cut : crop lo hi (route_by bases d (from_on ws at left i)) ≡ piece' ++ crop (lo - a) (hi - b) v
           cut = ap (crop lo hi) whole ∙ crop_append u v lo hi so.order m a b u_long ea eb
 
-          step : sets zs (next + (b - a)) (crop (lo - a) (hi - b) v) ≡ sets ys next (crop lo hi (route_by bases d (segments_of n (drop place ws))))
+          step : sets zs (next + (b - a)) (crop (lo - a) (hi - b) v) ≡ sets ys next (crop lo hi (route_by bases d (from_on ws at left i)))
           step = ap₂ (λ (z : List ℕ) (x : ℕ). sets z (next + x) (crop (lo - a) (hi - b) v)) ez (sym piece_long) ∙ sym (ap (sets ys next) cut ∙ sets_append piece' (crop (lo - a) (hi - b) v) ys next)
 
-pub cropping_done : (bases d ws xs ys : List ℕ) (at left from to next lo hi place n : ℕ) → Cropping bases d ws xs ys at left from to next lo hi place n → n ≤ 0
+pub cropping_done : (bases d ws xs ys : List ℕ) (at left from to next lo hi i : ℕ) → Cropping bases d ws xs ys at left from to next lo hi i → left ≤ i
     → ys ≡ sets xs 0 (crop from to (route_by bases d (segments_of left (drop at ws))))
 unfolding route_by
-cropping_done bases d ws xs ys at left from to next lo hi place n so z =
-    let e : crop lo hi (route_by bases d (segments_of n (drop place ws))) ≡ [] = ap (λ (r : Route). crop lo hi (route_by bases d r)) (segments_none ws place n z) ∙ empty lo (hi - lo) in
+cropping_done bases d ws xs ys at left from to next lo hi i so z =
+    let e : crop lo hi (route_by bases d (from_on ws at left i)) ≡ [] = ap (λ (r : Route). crop lo hi (route_by bases d r)) (from_none ws at left i z) ∙ empty lo (hi - lo) in
     ap (sets ys next) (sym e) ∙ so.rest
   where
     empty : (i j : ℕ) → part [] i j ≡ []

@@ -2,3 +2,4 @@ pub mod Spelling
 pub mod Inner
 pub mod Theorems
 pub mod Try
+pub mod Refusals

@@ -11,6 +11,7 @@ ghost use Rattle.evaluate.specs.Refusals.{no_refusal, at};
 ghost use Rattle.words.specs.Inner.{segments_of, Formed};
 ghost use Rattle.letters.specs.Letters.{oriented};
 ghost use Rattle.spell.specs.Spelling.{crop, crop_refusal, spelling_refusal, spell_answer, spell_out};
+ghost use Rattle.spell.specs.Refusals.{number_of, refusal_of};
 ghost use Rattle.spell.specs.Inner.{size_of, sizes, SlotAt, crop_by, letters_by, route_by, Inside, Passed, Replied};
 
 // What the spelling call answers: the refusal, and how many letters of out it wrote.
@@ -26,10 +27,7 @@ pub struct SpellReply {
 fn size_of(s: evaluate::Segment) -> u64
     ensures { result ≡ size_of s }
 {
-    if s.end < s.start {
-        return 0;
-    }
-    s.end - s.start
+    s.end.saturating_sub(s.start)
 }
 
 // Where the route of a slot stands among the words.
@@ -38,11 +36,8 @@ fn slot_at(words: &[u64], slot: usize) -> usize
     ensures { SlotAt words.now slot result }
 {
     let mut at: usize = 2;
-    let mut i = 0;
-    while i < slot {
-        let left = words::count_at(words, at);
-        at = at + 1 + evaluate::Segment::WORDS * left;
-        i += 1;
+    for _i in 0..slot {
+        at += 1 + evaluate::Segment::WORDS * words::count_at(words, at);
     }
     at
 }
@@ -53,36 +48,56 @@ fn has_letters(words: &[u64], at: usize, left: usize, to: u64) -> bool
     ensures { result ≡ leb to (sizes (segments_of left (drop at words.now))) }
 {
     let mut more = to;
-    let mut place = at;
-    let mut n = left;
-    while 0 < n {
-        let s = words::segment_at(words, place);
-        let m = size_of(s);
-        more -= words::lesser(more, m);
-        place += evaluate::Segment::WORDS;
-        n -= 1;
+    for i in 0..left {
+        let s = words::segment_at(words, at + evaluate::Segment::WORDS * i);
+        more = more.saturating_sub(size_of(s));
     }
     more == 0
 }
 
-// 41, then 37.
-fn crop_refusal(words: &[u64], slot: u64, from: u64, to: u64, room: usize) -> u64
-    requires { Formed words.now }
-    ensures { result ≡ crop_by words.now slot from to room }
-{
-    if words[1] <= slot {
-        return 41;
+// Why a crop is refused.
+#[derive(Clone, Copy, PartialEq, Eq, Debug)]
+enum CropRefusal {
+    // There is no such slot, or the crop is empty or ends past its route.
+    Crop,
+    // Its letters have no room in out.
+    Room,
+}
+
+impl CropRefusal {
+    fn number(self) -> u64
+        ensures { result ≡ number_of self }
+    {
+        match self {
+            CropRefusal::Crop => 41,
+            CropRefusal::Room => 37,
+        }
     }
-    if to <= from {
-        return 41;
+}
+
+// 41, then 37.
+fn crop_refusal(
+    words: &[u64],
+    slot: u64,
+    from: u64,
+    to: u64,
+    room: usize,
+) -> Result<(), CropRefusal>
+    requires { Formed words.now }
+    ensures { refusal_of result ≡ crop_by words.now slot from to room }
+{
+    if words[1] <= slot || to <= from {
+        return Err(CropRefusal::Crop);
     }
     let at = slot_at(words, slot as usize);
     let left = words::count_at(words, at);
-    if has_letters(words, at + 1, left, to) {
-        if to - from <= room as u64 { 0 } else { 37 }
-    } else {
-        41
+    if !has_letters(words, at + 1, left, to) {
+        return Err(CropRefusal::Crop);
     }
+    if to - from > room as u64 {
+        return Err(CropRefusal::Room);
+    }
+    Ok(())
 }
 
 // The letters from one number up to another of those that stand from a place on, as this orientation reads them.
@@ -99,12 +114,8 @@ fn put_piece(
     requires { (first + n ≤ length letters.now) × (from ≤ end) × (end ≤ n) × (to + (end - from) ≤ length out.old) }
     ensures { out.new ≡ sets out.old to (part (oriented reverse (part letters.now first n)) from (end - from)) }
 {
-    let mut at = to;
-    let mut i = from;
-    while i < end {
-        out[at] = letters::letter_at(letters, first, n, reverse, i);
-        at += 1;
-        i += 1;
+    for i in from..end {
+        out[to + (i - from)] = letters::letter_at(letters, first, n, reverse, i);
     }
 }
 
@@ -145,19 +156,15 @@ fn put_crop(
     let mut next: usize = 0;
     let mut lo = from;
     let mut hi = to;
-    let mut place = at;
-    let mut n = left;
-    while 0 < n {
-        let s = words::segment_at(words, place);
+    for i in 0..left {
+        let s = words::segment_at(words, at + evaluate::Segment::WORDS * i);
         let m = size_of(s);
-        let a = words::lesser(lo, m);
-        let b = words::lesser(hi, m);
+        let a = lo.min(m);
+        let b = hi.min(m);
         put_segment(out, next, letters, bases, s, a as usize, b as usize);
         next += (b - a) as usize;
         lo -= a;
         hi -= b;
-        place += evaluate::Segment::WORDS;
-        n -= 1;
     }
 }
 
@@ -186,9 +193,8 @@ fn spell_passed(
     ensures { Replied (at (crop_refusal (panel_of image.now) letters.now words.now slot from to (length out.old)) 0 no_refusal) (panel_of image.now) letters.now words.now slot from to out.old out.new result }
 {
     let room = out.len();
-    let n = crop_refusal(words, slot, from, to, room);
-    if 0 < n {
-        return reply(n, 0, 0);
+    if let Err(e) = crop_refusal(words, slot, from, to, room) {
+        return reply(e.number(), 0, 0);
     }
     let place = slot_at(words, slot as usize);
     let left = words::count_at(words, place);
@@ -211,13 +217,11 @@ fn spell_accepted(
     requires { Accepted image.now h }
     ensures { Replied (spelling_refusal (panel_of image.now) letters.now words.now slot from to (length out.old)) (panel_of image.now) letters.now words.now slot from to out.old out.new result }
 {
-    let n = letters::letters_refusal(image, h, letters);
-    if 0 < n {
-        return reply(n, 0, 0);
+    if let Err(e) = letters::letters_refusal(image, h, letters) {
+        return reply(e.number(), 0, 0);
     }
-    let r = assignment::given_refusal(image, h, words);
-    if 0 < r.number {
-        return reply(r.number, r.place, 0);
+    if let Err(e) = assignment::check_given(image, h, words) {
+        return reply(e.number(), e.place(), 0);
     }
     spell_passed(image, h, letters, words, slot, from, to, out)
 }
@@ -236,7 +240,7 @@ pub fn spell(
     ensures out_after { out.new ≡ spell_out image.now letters.now words.now slot from to out.old }
 {
     match graph::check_panel(image) {
-        image::Opened::Good(h) => { spell_accepted(image, h, letters, words, slot, from, to, out) }
-        image::Opened::Refused(n) => reply(n, 0, 0),
+        Ok(h) => spell_accepted(image, h, letters, words, slot, from, to, out),
+        Err(e) => reply(e.number(), 0, 0),
     }
 }

@@ -1,5 +1,5 @@
 -- Laws of the binary searches over records.
-use Prim.Native.Nat.{ℕ, zero, suc, ◌+◌, ◌-◌, ◌/◌, ◌≤◌, ◌<◌}
+use Prim.Native.Nat.{ℕ, zero, suc, ◌+◌, ◌-◌, ◌≤◌, ◌<◌}
 use native.Mathlib.Omega.{arith}
 use mathlib.Core.Path.{◌≡◌, refl, sym, ap, ◌∙◌}
 use mathlib.Core.Bool.{Bool, true, false}
@@ -7,17 +7,17 @@ use mathlib.Core.List.{List, [], ◌∷◌}
 use lib.ListN.{length, take, drop, get_or, length-drop}
 use lib.Seq.{length-take-le}
 use Rattle.ground.specs.Lists.{each, count, one_more_if}
-use Rattle.ground.proofs.ListLaws.{each_length, each_from, Falls, Cut, cut_up, cut_down, rising_falls}
+use Rattle.ground.proofs.ListLaws.{each_length, each_from, Falls, Cut, point_counts, rising_falls}
 use Rattle.storage.specs.Records.{padded, port_of, no_port}
-use Rattle.storage.specs.Orders.{word_order, is_less, record_lt, word_below, word_up_to}
+use Rattle.storage.specs.Orders.{word_order, record_lt, word_below, word_up_to}
 use Rattle.storage.specs.Inner.{Offset, Sorted}
 use Rattle.storage.specs.declared.Port.{Port}
-use Rattle.storage.specs.declared.Order.{Order}
-use Rattle.storage.specs.declared.Order.TheVariants.{Less, Equal, Greater}
-use Rattle.storage.proofs.OrderLaws.{padded_order, record_chain, below_before, below_up_to}
+use Rattle.std.specs.declared.cmp.Ordering.{Ordering}
+use Rattle.std.specs.Ordering.{is_lt, is_le}
+use Rattle.storage.proofs.OrderLaws.{padded_order, record_chain, below_before, below_up_to, lt_is, le_is}
 
 -- what was read of record i's word
-module _ (s : List ℕ) (base n k i at : ℕ) (w : List ℕ) (o : Order) (off : Offset s base n k i at) (lt : i < n) (long : length w ≡ k) (e : o ≡ word_order (take (length w) (drop at s)) w) where
+module _ (s : List ℕ) (base n k i at : ℕ) (w : List ℕ) (o : Ordering) (off : Offset s base n k i at) (lt : i < n) (long : length w ≡ k) (e : o ≡ word_order (take (length w) (drop at s)) w) where
   order_is : word_order (get_or (each (port_of k) (k + 17) n (drop base s)) i no_port).word (padded w k) ≡ o
   unfolding port_of
   order_is =
@@ -25,36 +25,25 @@ module _ (s : List ℕ) (base n k i at : ℕ) (w : List ℕ) (o : Order) (off : 
       let letters : length (take k (drop at s)) ≡ k = length-take-le k (drop at s) (rw length-drop (omega (arith, off.room))) in
       ap (λ (p : Port). word_order p.word (padded w k)) here ∙ padded_order (take k (drop at s)) w k letters long ∙ sym (e ∙ rw long)
 
-  pub below_told : (r : Bool) → r ≡ is_less o → r ≡ word_below (padded w k) (get_or (each (port_of k) (k + 17) n (drop base s)) i no_port)
+  pub below_told : (r : Bool) → r ≡ is_lt o → r ≡ word_below (padded w k) (get_or (each (port_of k) (k + 17) n (drop base s)) i no_port)
   unfolding word_below
-  below_told r f = f ∙ rw order_is
+  below_told r f = f ∙ lt_is o ∙ rw order_is
 
-  pub up_to_less : o ≡ Less → true ≡ word_up_to (padded w k) (get_or (each (port_of k) (k + 17) n (drop base s)) i no_port)
+  pub up_to_told : (r : Bool) → r ≡ is_le o → r ≡ word_up_to (padded w k) (get_or (each (port_of k) (k + 17) n (drop base s)) i no_port)
   unfolding word_up_to
-  up_to_less f = rw (order_is, f)
-
-  pub up_to_equal : o ≡ Equal → true ≡ word_up_to (padded w k) (get_or (each (port_of k) (k + 17) n (drop base s)) i no_port)
-  unfolding word_up_to
-  up_to_equal f = rw (order_is, f)
-
-  pub up_to_greater : o ≡ Greater → false ≡ word_up_to (padded w k) (get_or (each (port_of k) (k + 17) n (drop base s)) i no_port)
-  unfolding word_up_to
-  up_to_greater f = rw (order_is, f)
+  up_to_told r f = f ∙ le_is o ∙ rw order_is
 
 pub records_length : (s : List ℕ) (base n k : ℕ) → length (each (port_of k) (k + 17) n (drop base s)) ≡ n
 records_length s base n k = each_length (port_of k) (k + 17) no_port n (drop base s)
 
--- a turn of a search among rising records for the first that fails a test
-module _ (s : List ℕ) (base n k : ℕ) (f : Port → Bool) (lo hi : ℕ) (r : Bool) (sorted : Sorted s base n k) (back : (p q : Port) → record_lt p q ≡ true → f q ≡ true → f p ≡ true) (lt : lo < hi)
-    (so : Cut f (each (port_of k) (k + 17) n (drop base s)) no_port n lo hi) (test : r ≡ f (get_or (each (port_of k) (k + 17) n (drop base s)) (lo + (hi - lo) / 2) no_port)) where
-  falls : Falls f (each (port_of k) (k + 17) n (drop base s)) no_port
-  falls = rising_falls record_lt record_chain no_port f back (each (port_of k) (k + 17) n (drop base s)) sorted.rise
-
-  pub word_up : r ≡ true → Cut f (each (port_of k) (k + 17) n (drop base s)) no_port n (lo + (hi - lo) / 2 + 1) hi
-  word_up = cut_up f (each (port_of k) (k + 17) n (drop base s)) no_port n lo hi _ r so lt refl test (records_length s base n k) falls
-
-  pub word_down : r ≡ false → Cut f (each (port_of k) (k + 17) n (drop base s)) no_port n lo (lo + (hi - lo) / 2)
-  word_down = cut_down f (each (port_of k) (k + 17) n (drop base s)) no_port n lo hi _ r so lt refl test (records_length s base n k) falls
+-- where a search by halves ends, among rising records
+pub sorted_point : (s : List ℕ) (base n k : ℕ) (f : Port → Bool) (lo hi r : ℕ) → Sorted s base n k → ((p q : Port) → record_lt p q ≡ true → f q ≡ true → f p ≡ true)
+    → Cut f (each (port_of k) (k + 17) n (drop base s)) no_port n lo hi → (lo ≤ r) × (r ≤ hi)
+    → (lo < r → true ≡ f (get_or (each (port_of k) (k + 17) n (drop base s)) (r - 1) no_port)) → (r < hi → false ≡ f (get_or (each (port_of k) (k + 17) n (drop base s)) r no_port))
+    → r ≡ count f (each (port_of k) (k + 17) n (drop base s))
+sorted_point s base n k f lo hi r sorted back so room last first =
+    let falls = rising_falls record_lt record_chain no_port f back (each (port_of k) (k + 17) n (drop base s)) sorted.rise in
+    point_counts f (each (port_of k) (k + 17) n (drop base s)) no_port n lo hi r falls so (records_length s base n k) room last first
 
 -- ---- a search that begins where those with a lower word end
 

@@ -2,25 +2,31 @@
 use Prim.Native.Nat.{ℕ, zero, suc, ◌+◌, ◌-◌, ◌*◌, ◌/◌, ◌≤◌, ◌<◌}
 use native.Mathlib.Nat.{not-suc-le-zero, sub-zero, suc-sub-suc}
 use mathlib.Core.Path.{◌≡◌, refl, sym, ap, ◌∙◌}
-use mathlib.Core.List.{List, [], ◌∷◌, ◌++◌}
+use mathlib.Core.List.{List, [], ◌∷◌}
 use native.Mathlib.Numerals.{add-one}
 use native.Mathlib.Omega.{arith}
-use lib.ListN.{take, drop, get_or, length, set, replicate, length-drop}
+use lib.ListN.{drop, get_or, length, replicate}
 use lib.Seq.{drop-cons, get_or-drop, drop-drop}
 use lib.Dec.{eqb}
 use Rattle.storage.specs.Bytes.{little, number, part}
 use Rattle.ground.specs.Lists.{each}
 use Rattle.ground.proofs.ListLaws.{both, place_fits, each_from}
-use mathlib.Core.Bool.{Bool, true, false, not}
+use mathlib.Core.Bool.{Bool, true, false, beq}
 use borrow.Author.Tests.{eq-eqb, ne_eqb, eqb-true}
-use Rattle.storage.specs.Inner.{le_at, Records, Offset}
+use Rattle.storage.specs.Inner.{Records, Offset}
 use Rattle.storage.specs.Records.{padded, port_of, no_port, cut_offset, cut_of, same_turn, stands_at}
 use Rattle.storage.specs.Orders.{place_before}
 use Rattle.storage.specs.declared.Port.{Port}
+use Rattle.std.specs.Int.{from_le_bytes, w64}
 
 -- `drop-cons` at the code's `i + 1`
 pub drop_next : (xs : List ℕ) (at : ℕ) → at < length xs → drop at xs ≡ get_or xs at 0 ∷ drop (at + 1) xs
 drop_next xs at h = rw (add-one, drop-cons xs at 0)
+
+-- the n bytes from a place on, read one by one
+abbrev pub le_at : ℕ → List ℕ → ℕ → ℕ
+le_at zero xs at = 0
+le_at (suc n) xs at = get_or xs at 0 + 256 * le_at n xs (at + 1)
 
 pub little_at : (n : ℕ) (xs : List ℕ) (at : ℕ) → at + n ≤ length xs → little n (drop at xs) ≡ le_at n xs at
 unfolding little
@@ -33,34 +39,18 @@ pub number_at : (xs : List ℕ) (at r : ℕ) → at + 8 ≤ length xs → r ≡ 
 unfolding number
 number_at xs at r h e = e ∙ sym (little_at 8 xs at h)
 
-fill_suc : (n : ℕ) (s d : List ℕ) → n < length d → n < length s → set (take n s ++ drop n d) n (get_or s n 0) ≡ take (suc n) s ++ drop (suc n) d
-fill_suc n [] d l m = absurd (not-suc-le-zero m)
-fill_suc n (x ∷ s) [] l m = absurd (not-suc-le-zero l)
-fill_suc zero (x ∷ s) (y ∷ d) l m = refl
-fill_suc (suc n) (x ∷ s) (y ∷ d) l m = ap (λ (t : List ℕ). x ∷ t) (fill_suc n s d (omega arith) (omega arith))
+again : (at n : ℕ) → at + n + 1 ≡ at + (n + 1)
+again at n = omega arith
 
--- one more turn of a loop that copies a part to the front of a list d
-pub copy_next : (xs : List ℕ) (at n : ℕ) (d : List ℕ) → n < length d → at + n < length xs → set (part xs at n ++ drop n d) n (get_or xs (at + n) 0) ≡ part xs at (n + 1) ++ drop (n + 1) d
-copy_next xs at n d l m =
-    let room : n < length (drop at xs) = simp length-drop (omega arith) in
-    rw (add-one, ← (get_or-drop at xs n 0)) (fill_suc n (drop at xs) d l room)
+-- eight bytes, read one by one
+pub le_bytes : (xs : List ℕ) (at : ℕ) → from_le_bytes w64 (get_or xs at 0 ∷ get_or xs (at + 1) 0 ∷ get_or xs (at + 2) 0 ∷ get_or xs (at + 3) 0 ∷ get_or xs (at + 4) 0 ∷ get_or xs (at + 5) 0 ∷ get_or xs (at + 6) 0 ∷ get_or xs (at + 7) 0 ∷ []) ≡ le_at 8 xs at
+le_bytes xs at =
+    rw (again at 1, again at 2, again at 3, again at 4, again at 5, again at 6) (omega arith)
 
 pub drop_replicate : (n m : ℕ) → n ≤ m → drop {A = ℕ} n (replicate m 0) ≡ replicate (m - n) 0
 drop_replicate zero m h = rw sub-zero
 drop_replicate (suc n) zero h = absurd (not-suc-le-zero h)
 drop_replicate (suc n) (suc m) h = rw suc-sub-suc (drop_replicate n m (omega arith))
-
--- a word of which the first i letters are filled
-abbrev pub Filled : List ℕ → ℕ → ℕ → List ℕ → Type 0
-Filled xs at i w = w ≡ part xs at i ++ drop i (replicate 32 0)
-
-pub filled_next : (xs w : List ℕ) (at k i : ℕ) → i < k → at + k ≤ length xs → k ≤ 32 → Filled xs at i w → Filled xs at (i + 1) (set w i (get_or xs (at + i) 0))
-filled_next xs w at k i lt fits small h = rw h (copy_next xs at i (replicate 32 0) (omega arith) (omega arith))
-
-pub filled_done : (xs w : List ℕ) (at k i : ℕ) → i ≤ k → k ≤ i → k ≤ 32 → Filled xs at i w → w ≡ padded (part xs at k) k
-filled_done xs w at k i le ge small h =
-    let same : i ≡ k = omega arith in
-    h ∙ rw (same, drop_replicate k 32 small)
 
 -- the record at a place, from what was read behind it
 pub port_read : (xs w : List ℕ) (at k s a b : ℕ) → w ≡ padded (part xs at k) k → s ≡ number (drop (at + k) xs) → a ≡ number (drop (at + k + 8) xs)
@@ -132,16 +122,6 @@ offset_reverse k r e = rw e
 pub offset_forward : (k : ℕ) (r : Bool) → r ≡ false → k / 2 ≡ cut_offset k r
 offset_forward k r e = rw e
 
-pub turn_reverse : (a b : Bool) → a ≡ true → b ≡ same_turn a b
-turn_reverse true true e = refl
-turn_reverse true false e = refl
-turn_reverse false b e = cc
-
-pub turn_forward : (a b : Bool) → a ≡ false → not b ≡ same_turn a b
-turn_forward false true e = refl
-turn_forward false false e = refl
-turn_forward true b e = cc
-
 module _ (k cut c : ℕ) (reverse : Bool) (p : Port) (e : c ≡ cut_of p k) where
   pub stands_there : (r : Bool) → c ≡ cut → r ≡ same_turn p.reverse reverse → r ≡ stands_at k cut reverse p
   unfolding stands_at
@@ -150,6 +130,12 @@ module _ (k cut c : ℕ) (reverse : Bool) (p : Port) (e : c ≡ cut_of p k) wher
   pub stands_not : (c ≡ cut → ⊥) → false ≡ stands_at k cut reverse p
   unfolding stands_at
   stands_not n = rw (← e, ne_eqb c cut n)
+
+pub turns_beq : (a b : Bool) → beq a b ≡ same_turn a b
+turns_beq true true = refl
+turns_beq true false = refl
+turns_beq false true = refl
+turns_beq false false = refl
 
 -- a port that has this cut and orientation has the place of one anchor, and the cut is not before its offset
 pub stands_place : (k cut : ℕ) (reverse : Bool) (p : Port) → stands_at k cut reverse p ≡ true → (p.anchor + cut_offset k reverse ≡ cut) × (p.reverse ≡ reverse)

@@ -1,164 +1,79 @@
 -- Laws of the orders: a comparison letter by letter, and that the order of records is one.
-use Prim.Native.Nat.{ℕ, zero, suc, ◌+◌, ◌-◌, ◌*◌, ◌≤◌, ◌<◌}
-use native.Mathlib.Nat.{le_of_lt}
+use Prim.Native.Nat.{ℕ, ◌+◌, ◌-◌, ◌*◌, ◌≤◌, ◌<◌}
 use native.Mathlib.Omega.{arith}
 use mathlib.Core.Path.{◌≡◌, refl, sym, ap, ◌∙◌}
-use mathlib.Core.Bool.{Bool, true, false, not}
+use mathlib.Core.Bool.{Bool, true, false, not, cond}
 use mathlib.Core.List.{List, [], ◌∷◌, ◌++◌}
 use mathlib.Core.Logic.{◌⊎◌, inl, inr}
-use lib.Dec.{ltb}
-use lib.ListN.{length, take, drop, get_or, replicate, drop_of_length-le, length-drop}
-use lib.Seq.{get_or-take, get_or-drop, length-take-le}
-use borrow.Author.Tests.{lt-ltb, le-ltb, ltb-true, ltb-false}
+use lib.Dec.{ltb, eqb}
+use lib.ListN.{length, take, drop, replicate, length-drop}
+use lib.Seq.{length-take-le}
+use borrow.Author.Tests.{lt-ltb, le-ltb, ltb-true, ltb-false, eqb-true, eqb-false}
 use Rattle.ground.specs.Lists.{pick}
-use Rattle.storage.proofs.Laws.{drop_next}
 use Rattle.storage.specs.Records.{padded, port_of}
 use Rattle.storage.specs.Orders.{and_then, num_order, flag_order, word_order, port_order, is_less, is_equal, is_greater, record_lt, same_port, turn, place_of, place_lt, place_before, word_below, word_up_to}
-use Rattle.storage.specs.Inner.{SameUpTo, rest_order, be_at, BytesAt, Lead}
 use Rattle.storage.specs.declared.Port.{Port}
-use Rattle.storage.specs.declared.Order.{Order}
-use Rattle.storage.specs.declared.Order.TheVariants.{Less, Equal, Greater}
+use Rattle.std.specs.declared.cmp.Ordering.{Ordering}
+use Rattle.std.specs.declared.cmp.Ordering.TheVariants.{Less, Equal, Greater}
+use Rattle.std.specs.Ordering.{nat_cmp, bool_cmp, ordering_then, is_lt, is_le, is_eq, MatchOrdering}
+use Rattle.std.specs.Cmp.Lexicographic.{slice_cmp}
 
 -- ---- numbers
 
 pub num_less : (x y : ℕ) → x < y → Less ≡ num_order x y
 num_less x y h = rw (lt-ltb x y h)
 
-pub num_greater : (x y : ℕ) → y < x → Greater ≡ num_order x y
-num_greater x y h = rw (le-ltb x y (le_of_lt h), lt-ltb y x h)
-
 pub num_equal : (x y : ℕ) → y ≤ x → x ≤ y → Equal ≡ num_order x y
 num_equal x y h g = rw (le-ltb x y h, le-ltb y x g)
 
--- ---- words, letter by letter
+-- ---- what the language's comparisons answer
 
-word_step : (a b : List ℕ) (i : ℕ) → i < length a → i < length b → word_order (drop i a) (drop i b) ≡ and_then (num_order (get_or a i 0) (get_or b i 0)) (word_order (drop (i + 1) a) (drop (i + 1) b))
-unfolding word_order
-word_step a b i la lb = rw (drop_next a i la, drop_next b i lb)
-
--- the first i letters are equal (SameUpTo)
-module _ (n : ℕ) (a b : List ℕ) (i : ℕ) (la : length a ≡ n) (lb : length b ≡ n) (s : SameUpTo a b i) where
-  step : i < n → word_order a b ≡ and_then (num_order (get_or a i 0) (get_or b i 0)) (word_order (drop (i + 1) a) (drop (i + 1) b))
-  step h = s ∙ word_step a b i (omega arith) (omega arith)
-
-  by_less : i < n → get_or a i 0 < get_or b i 0 → Less ≡ word_order a b
-  by_less h l = rw (step h, ← (num_less (get_or a i 0) (get_or b i 0) l))
-
-  by_greater : i < n → get_or b i 0 < get_or a i 0 → Greater ≡ word_order a b
-  by_greater h l = rw (step h, ← (num_greater (get_or a i 0) (get_or b i 0) l))
-
-  by_next : i < n → get_or b i 0 ≤ get_or a i 0 → get_or a i 0 ≤ get_or b i 0 → SameUpTo a b (i + 1)
-  by_next h l g = step h ∙ rw (← (num_equal (get_or a i 0) (get_or b i 0) l g))
-
-  by_equal : n ≤ i → Equal ≡ word_order a b
-  unfolding word_order
-  by_equal h =
-      let ea : drop i a ≡ [] = drop_of_length-le a {i = i} (omega arith) in
-      let eb : drop i b ≡ [] = drop_of_length-le b {i = i} (omega arith) in
-      rw (s, ea, eb)
-
--- two padded words
-module _ (a b : List ℕ) (i : ℕ) (la : length a ≡ 32) (lb : length b ≡ 32) (s : SameUpTo a b i) where
-  pub word_less : i < 32 → get_or a i 0 < get_or b i 0 → Less ≡ word_order a b
-  word_less = by_less 32 a b i la lb s
-
-  pub word_greater : i < 32 → get_or b i 0 < get_or a i 0 → Greater ≡ word_order a b
-  word_greater = by_greater 32 a b i la lb s
-
-  pub word_next : i < 32 → get_or b i 0 ≤ get_or a i 0 → get_or a i 0 ≤ get_or b i 0 → SameUpTo a b (i + 1)
-  word_next = by_next 32 a b i la lb s
-
-  pub word_equal : 32 ≤ i → Equal ≡ word_order a b
-  word_equal = by_equal 32 a b i la lb s
-
--- the letters of an image from a place on, and a word
-module _ (xs : List ℕ) (at : ℕ) (w : List ℕ) (i : ℕ) (room : at + length w ≤ length xs) (s : SameUpTo (take (length w) (drop at xs)) w i) where
-  long : length (take (length w) (drop at xs)) ≡ length w
-  long = length-take-le (length w) (drop at xs) (rw length-drop (omega arith))
-
-  letter_is : i < length w → get_or (take (length w) (drop at xs)) i 0 ≡ get_or xs (at + i) 0
-  letter_is h = get_or-take (length w) (drop at xs) i 0 h ∙ get_or-drop at xs i 0
-
-  pub letters_less : i < length w → get_or xs (at + i) 0 < get_or w i 0 → Less ≡ word_order (take (length w) (drop at xs)) w
-  letters_less h l = by_less (length w) (take (length w) (drop at xs)) w i long refl s h (rw (letter_is h) l)
-
-  pub letters_greater : i < length w → get_or w i 0 < get_or xs (at + i) 0 → Greater ≡ word_order (take (length w) (drop at xs)) w
-  letters_greater h l = by_greater (length w) (take (length w) (drop at xs)) w i long refl s h (rw (letter_is h) l)
-
-  pub letters_next : i < length w → get_or w i 0 ≤ get_or xs (at + i) 0 → get_or xs (at + i) 0 ≤ get_or w i 0 → SameUpTo (take (length w) (drop at xs)) w (i + 1)
-  letters_next h l g = by_next (length w) (take (length w) (drop at xs)) w i long refl s h (rw (letter_is h) l) (rw (letter_is h) g)
-
-  pub letters_equal : length w ≤ i → Equal ≡ word_order (take (length w) (drop at xs)) w
-  letters_equal h = by_equal (length w) (take (length w) (drop at xs)) w i long refl s h
-
--- ---- eight letters at a time, as numbers
-
-lead_less : (n a c : ℕ) (xs ys : List ℕ) (at bt : ℕ) → BytesAt n xs at → a < c → be_at n a xs at < be_at n c ys bt
-lead_less zero a c xs ys at bt h l = l
-lead_less (suc n) a c xs ys at bt h l = lead_less n (256 * a + get_or xs at 0) (256 * c + get_or ys bt 0) xs ys (at + 1) (bt + 1) h.1 (let q = h.0 in omega arith)
-
--- how two numbers stand to each other
-data Against (x y : ℕ) : Type 0 where
-  under : x < y → Against x y
-  level : x ≡ y → Against x y
-  over : y < x → Against x y
-
-against : (x y : ℕ) → Against x y
-against x y = go (ltb x y) refl (ltb y x) refl
+pub num_cmp : (x y : ℕ) → nat_cmp x y ≡ num_order x y
+num_cmp x y = go (ltb x y) refl (eqb x y) refl
   where
-    go : (t : Bool) → ltb x y ≡ t → (u : Bool) → ltb y x ≡ u → Against x y
-    go true e u f = under (ltb-true x y e)
-    go false e true f = over (ltb-true y x f)
-    go false e false f = let a = ltb-false x y e in let b = ltb-false y x f in level (omega arith)
+    go : (t : Bool) → ltb x y ≡ t → (u : Bool) → eqb x y ≡ u → cond (ltb x y) Less (cond (eqb x y) Equal Greater) ≡ pick (ltb x y) Less (pick (ltb y x) Greater Equal)
+    go true e u f = rw e
+    go false e true f = let same : x ≡ y = eqb-true x y f in let back : ltb y x ≡ false = le-ltb y x (omega arith) in rw (e, f, back)
+    go false e false f = let above : y < x = (let n = eqb-false x y f in let m = ltb-false x y e in omega arith) in let back : ltb y x ≡ true = lt-ltb y x above in rw (e, f, back)
 
-module _ (xs : List ℕ) (at : ℕ) (w : List ℕ) (room : at + length w ≤ length xs) where
-  -- m letters from letter i on decide as the numbers do
-  pub record Decides (m i a : ℕ) : Type 0 where
-    pub less : be_at m a xs (at + i) < be_at m a w i → Less ≡ word_order (take (length w) (drop at xs)) w
-    pub greater : be_at m a w i < be_at m a xs (at + i) → Greater ≡ word_order (take (length w) (drop at xs)) w
-    pub equal : be_at m a w i ≤ be_at m a xs (at + i) → be_at m a xs (at + i) ≤ be_at m a w i → SameUpTo (take (length w) (drop at xs)) w (i + m)
+pub flag_cmp : (x y : Bool) → bool_cmp x y ≡ flag_order x y
+flag_cmp true true = refl
+flag_cmp true false = refl
+flag_cmp false true = refl
+flag_cmp false false = refl
 
-  decides_next : (m i a : ℕ) → i + suc m ≤ length w → BytesAt (suc m) xs (at + i) → BytesAt (suc m) w i → SameUpTo (take (length w) (drop at xs)) w i → Against (get_or xs (at + i) 0) (get_or w i 0)
-      → (SameUpTo (take (length w) (drop at xs)) w (i + 1) → Decides m (i + 1) (256 * a + get_or xs (at + i) 0)) → Decides (suc m) i a
-  decides_next m i a h bx bw s (under l) ih =
-      let here : i < length w = omega arith in
-      let q = lead_less m (256 * a + get_or xs (at + i) 0) (256 * a + get_or w i 0) xs w (at + i + 1) (i + 1) bx.1 (omega arith) in
-      record { less = λ k. letters_less xs at w i room s here l; greater = λ k. absurd (omega arith); equal = λ k g. absurd (omega arith) }
-  decides_next m i a h bx bw s (over l) ih =
-      let here : i < length w = omega arith in
-      let q = lead_less m (256 * a + get_or w i 0) (256 * a + get_or xs (at + i) 0) w xs (i + 1) (at + i + 1) bw.1 (omega arith) in
-      record { less = λ k. absurd (omega arith); greater = λ k. letters_greater xs at w i room s here l; equal = λ k g. absurd (omega arith) }
-  decides_next m i a h bx bw s (level e) ih =
-      let here : i < length w = omega arith in
-      let next : at + i + 1 ≡ at + (i + 1) = omega arith in
-      let far : i + suc m ≡ i + 1 + m = omega arith in
-      let d = ih (letters_next xs at w i room s here (omega arith) (omega arith)) in
-      record {
-        less = λ k. d.less (rw (next, ← e) at k);
-        greater = λ k. d.greater (rw (next, ← e) at k);
-        equal = λ k g. rw far (d.equal (rw (next, ← e) at k) (rw (next, ← e) at g));
-      }
+pub then_is : (a b : Ordering) → ordering_then a b ≡ and_then a b
+then_is Less b = refl
+then_is Equal b = refl
+then_is Greater b = refl
 
-  decides : (m i a : ℕ) → i + m ≤ length w → BytesAt m xs (at + i) → BytesAt m w i → SameUpTo (take (length w) (drop at xs)) w i → Decides m i a
-  decides zero i a h bx bw s =
-      let z : i + 0 ≡ i = omega arith in
-      record { less = λ l. absurd (omega arith); greater = λ l. absurd (omega arith); equal = λ l g. rw z s }
-  decides (suc m) i a h bx bw s =
-      let next : at + i + 1 ≡ at + (i + 1) = omega arith in
-      decides_next m i a h bx bw s (against (get_or xs (at + i) 0) (get_or w i 0)) (λ q. decides m (i + 1) (256 * a + get_or xs (at + i) 0) (omega arith) (rw next at bx.1) bw.1 q)
+-- one order and then another, as `then_with` answers it
+pub then_told : (a b r : Ordering) {P : Type 0} → MatchOrdering a (r ≡ Less) P (r ≡ Greater) → (P → r ≡ b) → r ≡ and_then a b
+then_told Less b r h f = h
+then_told Equal b r h f = f h
+then_told Greater b r h f = h
 
-  module _ (i x y : ℕ) (far : i + 8 ≤ length w) (lx : Lead xs (at + i) x) (ly : Lead w i y) (s : SameUpTo (take (length w) (drop at xs)) w i) where
-    eight : Decides 8 i 0
-    eight = decides 8 i 0 far lx.bytes ly.bytes s
+pub lt_is : (o : Ordering) → is_lt o ≡ is_less o
+lt_is Less = refl
+lt_is Equal = refl
+lt_is Greater = refl
 
-    pub leads_less : x < y → Less ≡ word_order (take (length w) (drop at xs)) w
-    leads_less l = eight.less (let a = lx.value in let b = ly.value in omega arith)
+pub le_is : (o : Ordering) → is_le o ≡ not (is_greater o)
+le_is Less = refl
+le_is Equal = refl
+le_is Greater = refl
 
-    pub leads_greater : y < x → Greater ≡ word_order (take (length w) (drop at xs)) w
-    leads_greater l = eight.greater (let a = lx.value in let b = ly.value in omega arith)
+pub eq_is : (o : Ordering) → is_eq o ≡ is_equal o
+eq_is Less = refl
+eq_is Equal = refl
+eq_is Greater = refl
 
-    pub leads_next : y ≤ x → x ≤ y → SameUpTo (take (length w) (drop at xs)) w (i + 8)
-    leads_next l g = eight.equal (let a = lx.value in let b = ly.value in omega arith) (let a = lx.value in let b = ly.value in omega arith)
+pub word_cmp : (a b : List ℕ) → slice_cmp nat_cmp a b ≡ word_order a b
+unfolding word_order
+word_cmp [] [] = refl
+word_cmp [] (y ∷ b) = refl
+word_cmp (x ∷ a) [] = refl
+word_cmp (x ∷ a) (y ∷ b) = rw (num_cmp x y, word_cmp a b) (then_is (num_order x y) (word_order a b))
 
 -- ---- padding keeps the order
 
@@ -180,19 +95,19 @@ padded_order a b k la lb = same_tail a b (replicate (32 - k) 0) (la ∙ sym lb)
 
 -- ---- an order by parts is one where each part is
 
-and_less : (a b : Order) → and_then a b ≡ Less → (a ≡ Less) ⊎ ((a ≡ Equal) × (b ≡ Less))
+and_less : (a b : Ordering) → and_then a b ≡ Less → (a ≡ Less) ⊎ ((a ≡ Equal) × (b ≡ Less))
 and_less Less b e = inl refl
 and_less Equal b e = inr (refl, e)
 and_less Greater b e = inl e
 
-pub and_equal : (a b : Order) → and_then a b ≡ Equal → (a ≡ Equal) × (b ≡ Equal)
+pub and_equal : (a b : Ordering) → and_then a b ≡ Equal → (a ≡ Equal) × (b ≡ Equal)
 and_equal Less b e = (e, cc)
 and_equal Equal b e = (refl, e)
 and_equal Greater b e = (e, cc)
 
-module _ {A : Type 0} (order : A → A → Order) (chain : (x y z : A) → order x y ≡ Less → order y z ≡ Less → order x z ≡ Less)
+module _ {A : Type 0} (order : A → A → Ordering) (chain : (x y z : A) → order x y ≡ Less → order y z ≡ Less → order x z ≡ Less)
     (one : (x y : A) → order x y ≡ Equal → x ≡ y) (self : (x : A) → order x x ≡ Equal) where
-  lex : (x y z : A) (a b c : Order) → (a ≡ Less → b ≡ Less → c ≡ Less) → and_then (order x y) a ≡ Less → and_then (order y z) b ≡ Less → and_then (order x z) c ≡ Less
+  lex : (x y z : A) (a b c : Ordering) → (a ≡ Less → b ≡ Less → c ≡ Less) → and_then (order x y) a ≡ Less → and_then (order y z) b ≡ Less → and_then (order x z) c ≡ Less
   lex x y z a b c rest p q = go (and_less (order x y) a p) (and_less (order y z) b q)
     where
       go : (order x y ≡ Less) ⊎ ((order x y ≡ Equal) × (a ≡ Less)) → (order y z ≡ Less) ⊎ ((order y z ≡ Equal) × (b ≡ Less)) → and_then (order x z) c ≡ Less
@@ -202,6 +117,13 @@ module _ {A : Type 0} (order : A → A → Order) (chain : (x y z : A) → order
       go (inr l) (inr m) =
           let e : order x z ≡ Equal = ap (λ (t : A). order t z) (one x y l.0 ∙ one y z m.0) ∙ self z in
           rw e (rest l.1 m.1)
+
+then_then : (w s t u : Ordering) → and_then (and_then (and_then w s) t) u ≡ and_then w (and_then s (and_then t u))
+then_then Less s t u = refl
+then_then Equal Less t u = refl
+then_then Equal Equal t u = refl
+then_then Equal Greater t u = refl
+then_then Greater s t u = refl
 
 pub num_same : (x y : ℕ) → num_order x y ≡ Equal → x ≡ y
 num_same x y e = go (ltb x y) (ltb y x) refl refl e
@@ -218,6 +140,14 @@ num_lt x y e = go (ltb x y) (ltb y x) refl e
     go true b p h = ltb-true x y p
     go false true p h = let z : ◌≡◌ {A = ℕ} 0 1 = cc in absurd (omega arith)
     go false false p h = let z : ◌≡◌ {A = ℕ} 0 1 = cc in absurd (omega arith)
+
+num_gt : (x y : ℕ) → num_order x y ≡ Greater → y < x
+num_gt x y e = go (ltb x y) (ltb y x) refl refl e
+  where
+    go : (a b : Bool) → ltb x y ≡ a → ltb y x ≡ b → pick a Less (pick b Greater Equal) ≡ Greater → y < x
+    go true b p q h = let z : ◌≡◌ {A = ℕ} 0 1 = cc in absurd (omega arith)
+    go false true p q h = ltb-true y x q
+    go false false p q h = let z : ◌≡◌ {A = ℕ} 0 1 = cc in absurd (omega arith)
 
 num_chain : (x y z : ℕ) → num_order x y ≡ Less → num_order y z ≡ Less → num_order x z ≡ Less
 num_chain x y z p q = let a = num_lt x y p in let b = num_lt y z q in sym (num_less x z (omega arith))
@@ -277,12 +207,12 @@ pub port_self : (p : Port) → port_order p p ≡ Equal
 unfolding port_order
 port_self p = rw (word_self p.word, num_self p.source, num_self p.anchor) (flag_self p.reverse)
 
-less_of : (o : Order) → is_less o ≡ true → o ≡ Less
+less_of : (o : Ordering) → is_less o ≡ true → o ≡ Less
 less_of Less e = refl
 less_of Equal e = cc
 less_of Greater e = cc
 
-pub equal_of : (o : Order) → is_equal o ≡ true → o ≡ Equal
+pub equal_of : (o : Ordering) → is_equal o ≡ true → o ≡ Equal
 equal_of Less e = cc
 equal_of Equal e = refl
 equal_of Greater e = cc
@@ -314,7 +244,7 @@ words_rise : (p q : Port) → record_lt p q ≡ true → (word_order p.word q.wo
 unfolding record_lt port_order
 words_rise p q e = go (and_less (word_order p.word q.word) _ (less_of _ e))
   where
-    go : {o : Order} → (word_order p.word q.word ≡ Less) ⊎ ((word_order p.word q.word ≡ Equal) × (o ≡ Less)) → (word_order p.word q.word ≡ Less) ⊎ (p.word ≡ q.word)
+    go : {o : Ordering} → (word_order p.word q.word ≡ Less) ⊎ ((word_order p.word q.word ≡ Equal) × (o ≡ Less)) → (word_order p.word q.word ≡ Less) ⊎ (p.word ≡ q.word)
     go (inl l) = inl l
     go (inr m) = inr (word_same p.word q.word m.0)
 
@@ -329,7 +259,7 @@ below_before w p q e t = go (words_rise p q e)
     go (inl l) = rw (word_chain p.word q.word w l low)
     go (inr s) = rw (s, low)
 
-not_greater : (o : Order) → not (is_greater o) ≡ true → (o ≡ Less) ⊎ (o ≡ Equal)
+not_greater : (o : Ordering) → not (is_greater o) ≡ true → (o ≡ Less) ⊎ (o ≡ Equal)
 not_greater Less e = inl refl
 not_greater Equal e = inr refl
 not_greater Greater e = inl cc
@@ -384,57 +314,54 @@ module _ (a b : ℕ) (t u : Bool) where
 
 -- a record whose anchor and orientation were read, before a place
 module _ (p : Port) (here anchor : ℕ) (reverse : Bool) (eh : here ≡ p.anchor) where
-  pub before_less : here < anchor → true ≡ place_before anchor reverse p
+  pub before_less : Less ≡ nat_cmp here anchor → true ≡ place_before anchor reverse p
   unfolding place_before
-  before_less l = place_less p.anchor anchor p.reverse reverse (omega arith)
+  before_less e = let l = num_lt here anchor (sym (e ∙ num_cmp here anchor)) in place_less p.anchor anchor p.reverse reverse (omega arith)
 
-  pub before_more : anchor < here → false ≡ place_before anchor reverse p
+  pub before_more : Greater ≡ nat_cmp here anchor → false ≡ place_before anchor reverse p
   unfolding place_before
-  before_more l = place_more p.anchor anchor p.reverse reverse (omega arith)
+  before_more e = let l = num_gt here anchor (sym (e ∙ num_cmp here anchor)) in place_more p.anchor anchor p.reverse reverse (omega arith)
 
-  module _ (le : anchor ≤ here) (ge : here ≤ anchor) (turned : Bool) (et : turned ≡ p.reverse) where
-    pub before_turned : turned ≡ true → false ≡ place_before anchor reverse p
-    unfolding place_before
-    before_turned e = place_turned p.anchor anchor p.reverse reverse (omega arith) (omega arith) (sym et ∙ e)
+  module _ (e : Equal ≡ nat_cmp here anchor) where
+    level : here ≡ anchor
+    level = num_same here anchor (sym (e ∙ num_cmp here anchor))
 
-    pub before_turn : turned ≡ false → reverse ≡ place_before anchor reverse p
+    -- a place that is forward: no record at its anchor stands before it
+    pub before_forward : reverse ≡ false → reverse ≡ place_before anchor reverse p
     unfolding place_before
-    before_turn e = place_turn p.anchor anchor p.reverse reverse (omega arith) (omega arith) (sym et ∙ e)
+    before_forward f = let l = level in f ∙ forward p.reverse refl
+      where
+        forward : (t : Bool) → p.reverse ≡ t → false ≡ ltb (place_of p.anchor p.reverse) (place_of anchor reverse)
+        forward true g = let l = level in place_turned p.anchor anchor p.reverse reverse (omega arith) (omega arith) g
+        forward false g = let l = level in sym f ∙ place_turn p.anchor anchor p.reverse reverse (omega arith) (omega arith) g
+
+    -- one that is reverse: a record at its anchor stands before it that is not reverse
+    pub before_reverse : (turned : Bool) → turned ≡ p.reverse → reverse ≡ true → not turned ≡ place_before anchor reverse p
+    unfolding place_before
+    before_reverse true et f = let l = level in place_turned p.anchor anchor p.reverse reverse (omega arith) (omega arith) (sym et)
+    before_reverse false et f = let l = level in sym f ∙ place_turn p.anchor anchor p.reverse reverse (omega arith) (omega arith) (sym et)
 
 -- ---- records compared where they stand
 
-pub rest_told : (p q : Port) (sa sb aa ab : ℕ) (ra rb : Bool) (anchors flags last sources r : Order) → aa ≡ p.anchor → ab ≡ q.anchor → anchors ≡ num_order aa ab → ra ≡ p.reverse → rb ≡ q.reverse
-    → flags ≡ flag_order ra rb → last ≡ and_then anchors flags → sa ≡ p.source → sb ≡ q.source → sources ≡ num_order sa sb → r ≡ and_then sources last → r ≡ rest_order p q
-unfolding rest_order
-rest_told p q sa sb aa ab ra rb anchors flags last sources r ea eb en fa fb ef el ha hb eh er = rw (er, eh, el, ef, en, ea, eb, fa, fb, ha, hb)
-
--- the letters of two records, and their order
-module _ (xs : List ℕ) (a b k : ℕ) (o : Order) (ra : a + (k + 17) ≤ length xs) (rb : b + (k + 17) ≤ length xs) (e : o ≡ word_order (take (length (take (b + k - b) (drop b xs))) (drop a xs)) (take (b + k - b) (drop b xs))) where
-  letters_of : port_order (port_of k (drop a xs)) (port_of k (drop b xs)) ≡ and_then o (rest_order (port_of k (drop a xs)) (port_of k (drop b xs)))
-  unfolding port_order port_of rest_order
-  letters_of =
+-- the order of two records, from the orders of their parts
+module _ (xs : List ℕ) (a b k : ℕ) (ra : a + (k + 17) ≤ length xs) (rb : b + (k + 17) ≤ length xs) where
+  pub parts_order : (w s t u : Ordering) → w ≡ word_order (take (length (take k (drop b xs))) (drop a xs)) (take k (drop b xs)) → s ≡ num_order (port_of k (drop a xs)).source (port_of k (drop b xs)).source
+      → t ≡ num_order (port_of k (drop a xs)).anchor (port_of k (drop b xs)).anchor → u ≡ flag_order (port_of k (drop a xs)).reverse (port_of k (drop b xs)).reverse
+      → and_then (and_then (and_then w s) t) u ≡ port_order (port_of k (drop a xs)) (port_of k (drop b xs))
+  unfolding port_order port_of
+  parts_order w s t u ew es et eu =
       let la : length (take k (drop a xs)) ≡ k = length-take-le k (drop a xs) (rw length-drop (omega arith)) in
       let lb : length (take k (drop b xs)) ≡ k = length-take-le k (drop b xs) (rw length-drop (omega arith)) in
-      let d : b + k - b ≡ k = omega arith in
-      let order : o ≡ word_order (take k (drop a xs)) (take k (drop b xs)) = e ∙ rw (d, lb) in
-      rw (order, padded_order (take k (drop a xs)) (take k (drop b xs)) k la lb)
+      let order : w ≡ word_order (take k (drop a xs)) (take k (drop b xs)) = ew ∙ rw lb in
+      rw (order, es, et, eu, padded_order (take k (drop a xs)) (take k (drop b xs)) k la lb) (then_then (word_order (take k (drop a xs)) (take k (drop b xs))) (num_order (port_of k (drop a xs)).source (port_of k (drop b xs)).source) (num_order (port_of k (drop a xs)).anchor (port_of k (drop b xs)).anchor) (flag_order (port_of k (drop a xs)).reverse (port_of k (drop b xs)).reverse))
 
-  pub compared_less : o ≡ Less → Less ≡ port_order (port_of k (drop a xs)) (port_of k (drop b xs))
-  compared_less f = sym (letters_of ∙ rw f)
-
-  pub compared_greater : o ≡ Greater → Greater ≡ port_order (port_of k (drop a xs)) (port_of k (drop b xs))
-  compared_greater f = sym (letters_of ∙ rw f)
-
-  pub compared_equal : (r : Order) → o ≡ Equal → r ≡ rest_order (port_of k (drop a xs)) (port_of k (drop b xs)) → r ≡ port_order (port_of k (drop a xs)) (port_of k (drop b xs))
-  compared_equal r f g = g ∙ sym (letters_of ∙ rw f)
-
-pub less_told : (p q : Port) (o : Order) (r : Bool) → o ≡ port_order p q → r ≡ is_less o → r ≡ record_lt p q
+pub less_told : (p q : Port) (o : Ordering) (r : Bool) → o ≡ port_order p q → r ≡ is_lt o → r ≡ record_lt p q
 unfolding record_lt
-less_told p q o r e f = f ∙ ap is_less e
+less_told p q o r e f = f ∙ lt_is o ∙ ap is_less e
 
-pub same_told : (p q : Port) (o : Order) (r : Bool) → o ≡ port_order p q → r ≡ is_equal o → r ≡ same_port p q
+pub same_told : (p q : Port) (o : Ordering) (r : Bool) → o ≡ port_order p q → r ≡ is_eq o → r ≡ same_port p q
 unfolding same_port
-same_told p q o r e f = f ∙ ap is_equal e
+same_told p q o r e f = f ∙ eq_is o ∙ ap is_equal e
 
 pub place_told : (p q : Port) (anchor : ℕ) (reverse r : Bool) → anchor ≡ q.anchor → reverse ≡ q.reverse → r ≡ place_before anchor reverse p → r ≡ place_lt p q
 unfolding place_before place_lt

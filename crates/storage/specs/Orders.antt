@@ -3,50 +3,50 @@ use Rattle.std.specs.Prelude.{ℕ, ◌+◌, ◌*◌, Bool, true, false, not, Lis
 use Rattle.ground.specs.Lists.{pick, count}
 use Rattle.storage.specs.declared.Port.{Port}
 use Rattle.storage.specs.declared.Members.{Members}
-use Rattle.storage.specs.declared.Order.{Order}
-use Rattle.storage.specs.declared.Order.TheVariants.{Less, Equal, Greater}
+use Rattle.std.specs.declared.cmp.Ordering.{Ordering}
+use Rattle.std.specs.declared.cmp.Ordering.TheVariants.{Less, Equal, Greater}
 
 -- the first order that decides
-abbrev pub and_then : Order → Order → Order
+abbrev pub and_then : Ordering → Ordering → Ordering
 and_then Less o = Less
 and_then Equal o = o
 and_then Greater o = Greater
 
-abbrev pub num_order : ℕ → ℕ → Order
+abbrev pub num_order : ℕ → ℕ → Ordering
 num_order x y = pick (ltb x y) Less (pick (ltb y x) Greater Equal)
 
 -- forward before reverse
-abbrev pub flag_order : Bool → Bool → Order
+abbrev pub flag_order : Bool → Bool → Ordering
 flag_order true true = Equal
 flag_order true false = Greater
 flag_order false true = Less
 flag_order false false = Equal
 
 -- letter by letter
-unfoldable pub word_order : List ℕ → List ℕ → Order
+unfoldable pub word_order : List ℕ → List ℕ → Ordering
 word_order [] [] = Equal
 word_order [] (y ∷ ys) = Less
 word_order (x ∷ xs) [] = Greater
 word_order (x ∷ xs) (y ∷ ys) = and_then (num_order x y) (word_order xs ys)
 
-unfoldable pub port_order : Port → Port → Order
+unfoldable pub port_order : Port → Port → Ordering
 port_order a b =
     and_then (word_order a.word b.word)
     (and_then (num_order a.source b.source)
     (and_then (num_order a.anchor b.anchor)
     (flag_order a.reverse b.reverse)))
 
-abbrev pub is_less : Order → Bool
+abbrev pub is_less : Ordering → Bool
 is_less Less = true
 is_less Equal = false
 is_less Greater = false
 
-abbrev pub is_equal : Order → Bool
+abbrev pub is_equal : Ordering → Bool
 is_equal Less = false
 is_equal Equal = true
 is_equal Greater = false
 
-abbrev pub is_greater : Order → Bool
+abbrev pub is_greater : Ordering → Bool
 is_greater Less = false
 is_greater Equal = false
 is_greater Greater = true

@@ -1,14 +1,14 @@
 -- Laws of a text that is put into a room, one piece behind the other.
 use Prim.Native.Nat.{ℕ, suc, ◌+◌, ◌-◌, ◌/◌, ◌≤◌, ◌<◌, min}
 use native.Mathlib.Omega.{arith}
-use native.Mathlib.Numerals.{add-one}
 use native.Mathlib.Nat.{zero-add}
 use native.Mathlib.Decide.{dec_lt}
 use mathlib.Core.Path.{◌≡◌, refl, sym, ap, ◌∙◌, subst}
 use mathlib.Core.List.{List, [], ◌∷◌, ◌++◌, append-nil, append_assoc}
 use lib.Dec.{ltb}
-use lib.ListN.{length, take, drop, get_or, set, length-append, length-set, length-take, drop_of_length-le, take-append-drop}
+use lib.ListN.{length, take, drop, get_or, set, length-append, length-set, length-take, length-drop, drop_of_length-le, take-append-drop}
 use lib.Seq.{sets, sets-eq, take_all, length-sets, set_out, drop-cons, drop-set-lt, get_or-set_same}
+use Rattle.std.proofs.lemmas.List.{take_more}
 use borrow.Author.Tests.{lt-ltb, le-ltb}
 use Rattle.ground.specs.Lists.{pick}
 use Rattle.evaluate.specs.Check.{over}
@@ -90,14 +90,12 @@ onto_piece a rest o p = record { long = put_length p ∙ o.long; then = λ us k 
 pub onto_end : {text xs ys : List ℕ} {at to : ℕ} → Onto text xs at [] ys to → Put text xs at ys to
 onto_end {text} {xs} {ys} {at} {to} o = o.then ys to (put_none ys to)
 
-module _ {xs ys : List ℕ} {at to : ℕ} (ts : List ℕ) (from i : ℕ) (o : Onto (drop from ts) xs at (drop i ts) ys to) where
-  pub from_next : {zs : List ℕ} {m : ℕ} → i < length ts → Put (get_or ts i 0 ∷ []) ys to zs m → Onto (drop from ts) xs at (drop (i + 1) ts) zs m
-  from_next {zs} {m} h p =
-      let e : drop i ts ≡ (get_or ts i 0 ∷ []) ++ drop (i + 1) ts = rw add-one (drop-cons ts i 0 h) in
-      onto_piece (get_or ts i 0 ∷ []) (drop (i + 1) ts) (subst (λ (l : List ℕ). Onto (drop from ts) xs at l ys to) e o) p
+-- the first bytes of a text, and one more; and all of them
+pub put_next : (ts : List ℕ) (i : ℕ) {xs ys zs : List ℕ} {at to m : ℕ} → i < length ts → Put (take i ts) xs at ys to → Put (get_or ts i 0 ∷ []) ys to zs m → Put (take (i + 1) ts) xs at zs m
+put_next ts i h p q = rw (take_more ts i 0 h) (put_then (take i ts) (get_or ts i 0 ∷ []) p q)
 
-  pub from_end : length ts ≤ i → Put (drop from ts) xs at ys to
-  from_end h = onto_end (subst (λ (l : List ℕ). Onto (drop from ts) xs at l ys to) (drop_of_length-le ts {i = i} h) o)
+pub put_all : (ts : List ℕ) (i : ℕ) {xs ys : List ℕ} {at to : ℕ} → length ts ≤ i → Put (take i ts) xs at ys to → Put ts xs at ys to
+put_all ts i {xs} {ys} {at} {to} h p = subst (λ (l : List ℕ). Put l xs at ys to) (take_all i ts h) p
 
 -- ---- digits
 
@@ -137,12 +135,15 @@ module _ {x i rest : ℕ} {ds : List ℕ} (c : Counting x i rest ds) (pos : 0 < 
         said = c.said ∙ rw (more y, le-ltb rest 10 h, behind y, ey) (append_assoc (digits (i - 1) (rest / 10)) (last_digit rest ∷ []) (drop i ds));
       }
 
-pub counting_ends : {x i rest : ℕ} {ds : List ℕ} → Counting x i rest ds → i ≤ 0 → Digits x ds i
+pub counting_ends : {x i rest : ℕ} {ds : List ℕ} → Counting x i rest ds → i ≤ 0 → Digits x ds 0
 unfolding digits
 counting_ends {x} {i} {rest} {ds} c h = let z : i ≡ 0 = omega arith in record { said = rw (c.said, z); long = c.long }
 
-pub number_put : {ds xs ys : List ℕ} {at n x from : ℕ} → Digits x ds from → Put (drop from ds) xs at ys n → Put (decimal x) xs at ys n
-number_put {ds} {xs} {ys} {at} {n} {x} {from} e p = subst (λ (l : List ℕ). Put l xs at ys n) e.said p
+pub number_put : {ds xs ys : List ℕ} {at n x from : ℕ} → Digits x ds from → Put (take (20 - from) (drop from ds)) xs at ys n → Put (decimal x) xs at ys n
+number_put {ds} {xs} {ys} {at} {n} {x} {from} d p =
+    let m = d.long in
+    let e : take (20 - from) (drop from ds) ≡ drop from ds = take_all (20 - from) (drop from ds) (omega (arith, length-drop from ds)) in
+    subst (λ (l : List ℕ). Put l xs at ys n) (e ∙ d.said) p
 
 -- ---- lines
 

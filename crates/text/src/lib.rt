@@ -2,9 +2,9 @@
 // room are dropped.
 #![tactic(auto)]
 
-ghost use Rattle.std.specs.Prelude.{◌≡◌, [], ◌∷◌, ◌++◌, length, drop};
+ghost use Rattle.std.specs.Prelude.{◌≡◌, ◌≤◌, [], ◌∷◌, ◌++◌, length};
 ghost use Rattle.search.specs.Sheet.{decimal, field};
-ghost use Rattle.text.specs.Inner.{Put, last_digit, Digits};
+ghost use Rattle.text.specs.Inner.{Put, Digits};
 
 // ---- bytes
 
@@ -19,24 +19,14 @@ pub fn put_byte(out: &mut [u8], at: usize, x: u8) -> usize
     }
 }
 
-// A text, from one of its places on.
-fn put_from(out: &mut [u8], at: usize, text: &[u8], from: usize) -> usize
-    ensures { Put (drop from text.now) out.old at out.new result }
-{
-    let n = text.len();
-    let mut to = at;
-    let mut i = from;
-    while i < n {
-        to = put_byte(out, to, text[i]);
-        i += 1;
-    }
-    to
-}
-
 pub fn put_text(out: &mut [u8], at: usize, text: &[u8]) -> usize
     ensures { Put text.now out.old at out.new result }
 {
-    put_from(out, at, text, 0)
+    let mut to = at;
+    for x in text {
+        to = put_byte(out, to, *x);
+    }
+    to
 }
 
 // ---- numbers
@@ -44,26 +34,18 @@ pub fn put_text(out: &mut [u8], at: usize, text: &[u8]) -> usize
 // A number below 2^64 has at most 20 digits; they stand at the end, from the place returned on.
 fn put_digits(digits: &mut [u8; 20], x: u64) -> usize
     requires { length digits.old ≡ 20 }
-    ensures { Digits x digits.new result }
+    ensures said { Digits x digits.new result }
+    ensures within { result ≤ 20 }
 {
     let mut rest = x;
-    let mut i: usize = 20;
-    while 0 < i {
-        i -= 1;
-        digits[i] = digit(rest);
+    for i in (0..20).rev() {
+        digits[i] = b'0' + (rest % 10) as u8;
         if rest < 10 {
             return i;
         }
-        rest = rest / 10;
+        rest /= 10;
     }
-    i
-}
-
-// The last digit of a number.
-fn digit(x: u64) -> u8
-    ensures { result ≡ last_digit x }
-{
-    48 + (x % 10) as u8
+    0
 }
 
 pub fn put_number(out: &mut [u8], at: usize, x: u64) -> usize
@@ -71,7 +53,7 @@ pub fn put_number(out: &mut [u8], at: usize, x: u64) -> usize
 {
     let mut digits = [0u8; 20];
     let from = put_digits(&mut digits, x);
-    put_from(out, at, &digits, from)
+    put_text(out, at, &digits[from..])
 }
 
 // ---- lines

@@ -1,4 +1,4 @@
-pub mod Lines
+pub mod LineLaws
 pub mod Scanning
 pub mod Putting
 pub mod Trips

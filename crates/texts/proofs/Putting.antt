@@ -1,12 +1,9 @@
 -- Laws of the words that a text holds, put word by word.
-use Prim.Native.Nat.{ℕ, suc, ◌+◌, ◌*◌, ◌≤◌, ◌<◌}
+use Prim.Native.Nat.{ℕ, suc, ◌+◌, ◌≤◌, ◌<◌}
 use native.Mathlib.Omega.{arith}
 use mathlib.Core.Path.{◌≡◌, refl, sym, ap, ap₂, ◌∙◌, subst}
 use mathlib.Core.Bool.{Bool, true, false, ◌||◌}
 use mathlib.Core.List.{List, [], ◌∷◌, ◌++◌, map}
-use mir.Val.{Fits}
-use mir.Syntax.{w64}
-use borrow.Author.Rules.{Fits-under}
 use lib.Dec.{eqb}
 use lib.ListN.{length, drop, get_or, set, drop_of_length-le, length-set}
 use lib.Seq.{sets, length-sets, set_comm, set-set, set-get_or, get_or-set_same, get_or-set_other}
@@ -24,7 +21,7 @@ use Rattle.texts.specs.declared.Line.{Line}
 use Rattle.texts.specs.declared.Place.{Place}
 use Rattle.texts.specs.Bed.{slots_from, onto, gathered}
 use Rattle.texts.specs.Inner.{Lined, LineAt, place_for, words_from, Holding}
-use Rattle.texts.proofs.Lines.{text_lined, text_slots}
+use Rattle.texts.proofs.LineLaws.{text_lined, text_slots}
 use Rattle.texts.proofs.Scanning.{gathered_some, first_empty}
 
 -- ---- words that are set
@@ -127,9 +124,6 @@ putting_start {ns} {text} {xs} {routes} h =
     }
 
 module _ {ns : List (List ℕ)} {text xs : List ℕ} {at to head count routes : ℕ} {ys : List ℕ} (c : Putting ns text xs at to head count routes ys) where
-  pub putting_lined : Lined text at
-  putting_lined = c.lined
-
   module _ (l : Line) (d : LineAt ns text at l) where
     abbrev rest : List (List ℕ)
     rest = lines_of (drop l.next text)
@@ -244,20 +238,8 @@ module _ {ns : List (List ℕ)} {text xs : List ℕ} {at to head count routes : 
           stands (λ (q : Place). q.to + 4 ≤ length ys)
           (λ (q : Place) (a : after q) (hd : q.head ≤ to) (tn : q.to ≤ to + 1). let f = a.fits in let la = length-set ys q.head q.count in let lb = length-sets (set ys q.head q.count) q.to (four (segment_of ns d.line)) in omega arith)
 
-      few_words : pl.to + 4 ≤ 65540
-      few_words = stands (λ (q : Place). q.to + 4 ≤ 65540) (λ (q : Place) (a : after q) (hd : q.head ≤ to) (tn : q.to ≤ to + 1). let f = a.short in omega arith)
-
       pub hold_head : pl.head < length ys
       hold_head = stands (λ (q : Place). q.head < length ys) (λ (q : Place) (a : after q) (hd : q.head ≤ to) (tn : q.to ≤ to + 1). let f = c.fits in let k = four_more in omega arith)
-
-      pub hold_times : Fits w64 (pl.head * 8)
-      hold_times =
-          let h : pl.head ≤ to = stands (λ (q : Place). q.head ≤ to) (λ (q : Place) (a : after q) (hd : q.head ≤ to) (tn : q.to ≤ to + 1). hd) in
-          let r = room_left in
-          Fits-under w64 (pl.head * 8) 600000 (omega arith) tt
-
-      pub hold_sum : Fits w64 (pl.to + 4)
-      hold_sum = let k = few_words in Fits-under w64 (pl.to + 4) 65541 (omega arith) tt
 
       pub hold_words : (h x : ℕ) → pl.to + 4 ≤ length (set ys h x)
       hold_words h x = rw (length-set ys h x) low
@@ -273,7 +255,3 @@ putting_ends {ns} {text} {xs} {at} {to} {head} {count} {routes} {ys} c n en h =
     let d : lines_of (drop at text) ≡ [] = ap lines_of (drop_of_length-le text {i = at} (omega arith)) ∙ lines_nothing in
     let z : count + 0 ≡ get_or ys head 0 = sym (c.here ∙ (omega arith)) in
     sym (ap (λ (x : ℕ). set ys head x) z ∙ set-get_or ys head 0) ∙ (rw d at c.todo)
-
-module _ {ns : List (List ℕ)} {text xs : List ℕ} {at to head count routes : ℕ} {ys : List ℕ} (c : Putting ns text xs at to head count routes ys) where
-  pub putting_same : length ys ≡ length xs
-  putting_same = c.same

@@ -1,52 +1,40 @@
 -- Laws of a text that is read line by line.
-use Prim.Native.Nat.{ℕ, suc, ◌+◌, ◌-◌, ◌*◌, ◌/◌, ◌≤◌, ◌<◌}
+use Prim.Native.Nat.{ℕ, suc, ◌+◌, ◌-◌, ◌*◌, ◌≤◌, ◌<◌}
 use native.Mathlib.Omega.{arith}
-use mathlib.Core.Path.{◌≡◌, refl, sym, ap, ◌∙◌, subst}
-use mathlib.Core.Bool.{Bool, true, false, ◌&&◌, ◌||◌, true≢false}
+use mathlib.Core.Path.{◌≡◌, refl, sym, ap, ◌∙◌}
+use Rattle.std.proofs.Common.{Option, Some, None, is_some, unwrap_or}
+use mathlib.Core.Bool.{Bool, true, false, ◌&&◌, ◌||◌}
 use mathlib.Core.List.{List, [], ◌∷◌, map}
-use lib.Dec.{leb, ltb, eqb}
+use lib.Dec.{eqb}
 use lib.ListN.{length, take, drop, get_or, drop_of_length-le, length-drop}
-use borrow.Author.Tests.{le-leb, lt-leb, leb-true, leb-false, eq-eqb, ne_eqb, eqb-true, eqb-false}
+use borrow.Author.Tests.{le-ltb, lt-ltb, eq-eqb, eqb-true}
 use Rattle.ground.specs.Lists.{pick, all}
 use Rattle.ground.proofs.ListLaws.{both}
 use Rattle.evaluate.specs.declared.Segment.{Segment}
 use Rattle.evaluate.specs.Segments.{Route}
 use Rattle.evaluate.specs.Words.{route_words, encode}
 use Rattle.names.specs.Names.{lines_of, ended, lane_of, cut}
-use Rattle.names.specs.Inner.{Placed, Found, Table}
+use Rattle.names.specs.Inner.{Placed, Finds, Table}
 use Rattle.names.proofs.Cutting.{lines_here, ended_here, not_ended, lines_nothing, ended_nothing}
 use Rattle.names.proofs.Laws as tables
-use Rattle.rows.specs.declared.Row.{Row}
 use Rattle.rows.specs.Rows.{is_row, slot_of, segment_of, column}
-use Rattle.rows.specs.Inner.{NameSpan, RowRead}
-use Rattle.texts.specs.declared.Scan.{Scan}
 use Rattle.texts.specs.Bed.{slots_from, text_ok, known, all_known, onto, gathered, routes_in, held}
-use Rattle.texts.specs.Inner.{Scanned, words_from, place_for}
-use Rattle.texts.proofs.Lines.{text_slots}
+use Rattle.texts.specs.Inner.{Counted, words_from}
+use Rattle.texts.proofs.LineLaws.{text_slots}
 
 -- ---- names
 
-pub lane_told : {names starts ends heads links : List ℕ} {lanes : ℕ} {line : List ℕ} {from to : ℕ} (r : ℕ) → Table names starts ends heads links lanes → NameSpan line from to
-    → Found (cut 10 names) lanes (take (to - from) (drop from line)) r → r ≡ lane_of (lines_of names) (column 0 line)
-lane_told {names} {starts} {ends} {heads} {links} {lanes} r t sp f = tables.found_lane r (tables.good_table names lanes t.good) f ∙ rw sp.is
+pub known_told : {names starts ends heads links name : List ℕ} {lanes : ℕ} (line : List ℕ) (o : Option ℕ) → Table names starts ends heads links lanes → name ≡ column 0 line → Finds (cut 10 names) lanes name o → is_some o ≡ known (lines_of names) line
+known_told {names} {starts} {ends} {heads} {links} {name} {lanes} line o t en f = go o f (tables.found_lane name o g f)
+  where
+    g : tables.Good names lanes
+    g = tables.good_table names lanes t.good
 
-pub known_told : {names starts ends heads links : List ℕ} {lanes : ℕ} (line : List ℕ) (r : ℕ) → Table names starts ends heads links lanes → r ≡ lane_of (lines_of names) (column 0 line) → ltb r lanes ≡ known (lines_of names) line
-known_told {names} {starts} {ends} {heads} {links} {lanes} line r t e = let g = tables.good_table names lanes t.good in rw (← g.count, e)
+    go : (o : Option ℕ) → Finds (cut 10 names) lanes name o → unwrap_or o lanes ≡ lane_of (lines_of names) name → is_some o ≡ known (lines_of names) line
+    go None f e = rw (← en, ← e, g.count) (sym (le-ltb lanes lanes (omega arith)))
+    go (Some r) f e = rw (← en, ← e, g.count) (sym (lt-ltb r lanes f.0))
 
 -- ---- slots
-
-pub follows_same : (slot routes : ℕ) → slot ≡ routes → true ≡ (eqb slot routes || eqb (suc slot) routes)
-follows_same slot routes e = rw (eq-eqb slot routes e)
-
-pub follows_less : (slot routes : ℕ) → (slot ≡ routes → ⊥) → slot < routes → eqb (routes - slot) 1 ≡ (eqb slot routes || eqb (suc slot) routes)
-follows_less slot routes ne lt = rw (ne_eqb slot routes ne) (go (eqb (routes - slot) 1) refl)
-  where
-    go : (b : Bool) → eqb (routes - slot) 1 ≡ b → b ≡ eqb (suc slot) routes
-    go true e = let q = eqb-true (routes - slot) 1 e in sym (eq-eqb (suc slot) routes (omega arith))
-    go false e = let q = eqb-false (routes - slot) 1 e in sym (ne_eqb (suc slot) routes (λ z. q (omega arith)))
-
-pub follows_more : (slot routes : ℕ) → (slot ≡ routes → ⊥) → routes ≤ slot → false ≡ (eqb slot routes || eqb (suc slot) routes)
-follows_more slot routes ne le = rw (ne_eqb slot routes ne, ne_eqb (suc slot) routes (λ z. omega arith))
 
 -- ---- what is left of a text, behind k routes
 
@@ -122,102 +110,74 @@ pub scanning_start : (ns : List (List ℕ)) (text : List ℕ) → Scanning ns te
 unfolding text_ok all_known
 scanning_start ns text = record { inside = omega arith; few = omega arith; fewer = omega arith; good = refl; names = refl; words = omega arith; count = omega arith }
 
-pub bad_scan : (ns : List (List ℕ)) (text : List ℕ) (r : Scan) → text_ok text ≡ false → r.good ≡ false → Scanned ns text r
-bad_scan ns text r e g =
-    record {
-      good = g ∙ sym e;
-      known = λ t. absurd (true≢false (sym t ∙ g));
-      words = λ t f. absurd (true≢false (sym t ∙ g));
-      routes = λ t. absurd (true≢false (sym t ∙ g));
-    }
+module _ {ns : List (List ℕ)} {text : List ℕ} {at lines routes : ℕ} {sure : Bool} (c : Scanning ns text at lines routes sure) (lt : at < length text) (e : ℕ) (p : Placed text at 10 e) where
+  pub scan_open : length text ≤ e → text_ok text ≡ false
+  scan_open h = c.good ∙ rw (not_ended p c.inside lt h)
 
-module _ {ns : List (List ℕ)} {text : List ℕ} {at lines routes : ℕ} {sure : Bool} (c : Scanning ns text at lines routes sure) (n e : ℕ) (en : n ≡ length text) (lt : at < n) (p : Placed text at 10 e) where
-  pub scan_open : (r : Scan) → n ≤ e → r.good ≡ false → Scanned ns text r
-  scan_open r h g = bad_scan ns text r (c.good ∙ rw (not_ended p c.inside (omega arith) (omega arith))) g
-
-  module _ (more : e < n) where
+  module _ (more : e < length text) where
     abbrev line : List ℕ
     line = take (e - at) (drop at text)
 
     pub lines_are : lines_of (drop at text) ≡ line ∷ lines_of (drop (e + 1) text)
-    lines_are = lines_here p c.inside (omega arith)
+    lines_are = lines_here p c.inside more
 
     rest_is : (k : ℕ) → rest_ok k (drop at text) ≡ (ended (drop (e + 1) text) && (is_row line && all is_row (lines_of (drop (e + 1) text))) && ((eqb (slot_of line) k || eqb (suc (slot_of line)) k) && slots_from (suc (slot_of line)) (map slot_of (lines_of (drop (e + 1) text)))))
     unfolding all slots_from
-    rest_is k = rw (lines_are, ended_here p c.inside (omega arith))
+    rest_is k = rw (lines_are, ended_here p c.inside more)
 
-    module _ (row : Row) (rd : RowRead (take (e - at) (drop at text)) row) where
-      pub scan_row : (r : Scan) → row.good ≡ false → r.good ≡ false → Scanned ns text r
-      scan_row r f g = bad_scan ns text r (c.good ∙ rest_is routes ∙ rw (← rd.told, f) (off (ended (drop (e + 1) text)) ((eqb (slot_of line) routes || eqb (suc (slot_of line)) routes) && slots_from (suc (slot_of line)) (map slot_of (lines_of (drop (e + 1) text)))))) g
+    pub scan_row : is_row (take (e - at) (drop at text)) ≡ false → text_ok text ≡ false
+    scan_row f = c.good ∙ rest_is routes ∙ rw f (off (ended (drop (e + 1) text)) ((eqb (slot_of line) routes || eqb (suc (slot_of line)) routes) && slots_from (suc (slot_of line)) (map slot_of (lines_of (drop (e + 1) text)))))
+      where
+        off : (a b : Bool) → (a && false && b) ≡ false
+        off true b = refl
+        off false b = refl
+
+    module _ (slot : ℕ) (slot_is : slot ≡ slot_of (take (e - at) (drop at text))) (b : Bool) (eb : b ≡ (eqb slot routes || eqb (suc slot) routes)) where
+      asked : (eqb (slot_of line) routes || eqb (suc (slot_of line)) routes) ≡ b
+      asked = rw (← slot_is) (sym eb)
+
+      pub scan_slot : b ≡ false → text_ok text ≡ false
+      scan_slot f = c.good ∙ rest_is routes ∙ rw (asked, f) (off (ended (drop (e + 1) text)) (is_row line && all is_row (lines_of (drop (e + 1) text))))
         where
-          off : (a b : Bool) → (a && false && b) ≡ false
-          off true b = refl
-          off false b = refl
+          off : (x y : Bool) → (x && y && false) ≡ false
+          off true true = refl
+          off true false = refl
+          off false y = refl
 
-      module _ (good : row.good ≡ true) where
-        pub scan_name : NameSpan (take (e - at) (drop at text)) row.from row.to
-        scan_name = (rd.holds good).name
-
-        slot_is : row.slot ≡ slot_of line
-        slot_is = (rd.holds good).slot
-
-        pub scan_slot : (b : Bool) (r : Scan) → b ≡ (eqb row.slot routes || eqb (suc row.slot) routes) → b ≡ false → r.good ≡ false → Scanned ns text r
-        scan_slot b r eb f g =
-            let z : (eqb (slot_of line) routes || eqb (suc (slot_of line)) routes) ≡ false = rw (← slot_is) (sym eb ∙ f) in
-            bad_scan ns text r (c.good ∙ rest_is routes ∙ rw z (off (ended (drop (e + 1) text)) (is_row line && all is_row (lines_of (drop (e + 1) text))))) g
+      module _ (bt : b ≡ true) where
+        pub slot_few : slot ≤ routes
+        slot_few = go (eqb slot routes) refl (sym eb ∙ bt)
           where
-            off : (x y : Bool) → (x && y && false) ≡ false
-            off true true = refl
-            off true false = refl
-            off false y = refl
+            go : (t : Bool) → eqb slot routes ≡ t → (t || eqb (suc slot) routes) ≡ true → slot ≤ routes
+            go true q d = let z = eqb-true slot routes q in omega arith
+            go false q d = let z = eqb-true (suc slot) routes d in omega arith
 
-        module _ (b : Bool) (eb : b ≡ (eqb row.slot routes || eqb (suc row.slot) routes)) (bt : b ≡ true) where
-          follow : (eqb (slot_of line) routes || eqb (suc (slot_of line)) routes) ≡ true
-          follow = rw (← slot_is) (sym eb ∙ bt)
-
-          slot_few : row.slot ≤ routes
-          slot_few = go (eqb row.slot routes) refl (sym eb ∙ bt)
-            where
-              go : (t : Bool) → eqb row.slot routes ≡ t → (t || eqb (suc row.slot) routes) ≡ true → row.slot ≤ routes
-              go true q d = let z = eqb-true row.slot routes q in omega arith
-              go false q d = let z = eqb-true (suc row.slot) routes d in omega arith
-
-          after_is : (r : ℕ) → r ≡ pick (eqb row.slot routes) (routes + 1) routes → r ≡ row.slot + 1
-          after_is r er = er ∙ go (eqb row.slot routes) refl (sym eb ∙ bt)
-            where
-              go : (t : Bool) → eqb row.slot routes ≡ t → (t || eqb (suc row.slot) routes) ≡ true → pick t (routes + 1) routes ≡ row.slot + 1
-              go true q d = let z = eqb-true row.slot routes q in omega arith
-              go false q d = let z = eqb-true (suc row.slot) routes d in omega arith
-
-          scan_next : (named sure' : Bool) → named ≡ known ns (take (e - at) (drop at text)) → sure' ≡ (sure && named) → Scanning ns text (e + 1) (lines + 1) (row.slot + 1) sure'
-          unfolding all
-          scan_next named sure' ek es =
-              let a = slot_few in
-              let f = c.few in
-              let g = c.fewer in
-              let o = p.is in
-              let one : row.slot + 1 ≡ suc (slot_of line) = rw slot_is (omega arith) in
-              let m = one_more ns routes line (lines_of (drop (e + 1) text)) follow in
-              let w = m.words in
-              let q = m.routes in
-              let cw : length (words_from (gathered ns 0 (lines_of text))) ≡ routes + 4 * lines + length (words_from (gathered ns routes (line ∷ lines_of (drop (e + 1) text)))) = rw (← lines_are) c.words in
-              let cc' : begun (gathered ns 0 (lines_of text)) ≡ routes + begun (gathered ns routes (line ∷ lines_of (drop (e + 1) text))) = rw (← lines_are) c.count in
-              record {
-                inside = omega arith;
-                few = omega arith;
-                fewer = omega arith;
-                good = c.good ∙ rest_is routes ∙ rw (← rd.told, good, follow, one);
-                names = c.names ∙ rw (lines_are, ← ek, es) (assoc sure named (all (known ns) (lines_of (drop (e + 1) text))));
-                words = rw one (omega (arith, cw, w));
-                count = rw one (omega (arith, cc', q));
-              }
-            where
-              assoc : (x y z : Bool) → (x && (y && z)) ≡ ((x && y) && z)
-              assoc true y z = refl
-              assoc false y z = refl
-
-          pub scan_again : (named sure' : Bool) (r : ℕ) → named ≡ known ns (take (e - at) (drop at text)) → sure' ≡ (sure && named) → r ≡ pick (eqb row.slot routes) (routes + 1) routes → Scanning ns text (e + 1) (lines + 1) r sure'
-          scan_again named sure' r ek es er = subst (λ (x : ℕ). Scanning ns text (e + 1) (lines + 1) x sure') (sym (after_is r er)) (scan_next named sure' ek es)
+        pub scan_again : {sure' : Bool} → is_row (take (e - at) (drop at text)) ≡ true → sure' ≡ (sure && known ns (take (e - at) (drop at text))) → Scanning ns text (e + 1) (lines + 1) (slot + 1) sure'
+        unfolding all
+        scan_again {sure'} good es =
+            let a = slot_few in
+            let f = c.few in
+            let g = c.fewer in
+            let o = p.is in
+            let one : slot + 1 ≡ suc (slot_of line) = rw slot_is (omega arith) in
+            let m = one_more ns routes line (lines_of (drop (e + 1) text)) (asked ∙ bt) in
+            let w = m.words in
+            let q = m.routes in
+            let cw : length (words_from (gathered ns 0 (lines_of text))) ≡ routes + 4 * lines + length (words_from (gathered ns routes (line ∷ lines_of (drop (e + 1) text)))) = rw (← lines_are) c.words in
+            let cc' : begun (gathered ns 0 (lines_of text)) ≡ routes + begun (gathered ns routes (line ∷ lines_of (drop (e + 1) text))) = rw (← lines_are) c.count in
+            record {
+              inside = omega arith;
+              few = omega arith;
+              fewer = omega arith;
+              good = c.good ∙ rest_is routes ∙ rw (good, asked, bt, one);
+              names = c.names ∙ rw (lines_are, es) (assoc sure (known ns line) (all (known ns) (lines_of (drop (e + 1) text))));
+              words = rw one (omega (arith, cw, w));
+              count = rw one (omega (arith, cc', q));
+            }
+          where
+            assoc : (x y z : Bool) → (x && (y && z)) ≡ ((x && y) && z)
+            assoc true y z = refl
+            assoc false y z = refl
 
 -- the first line begins the first route
 pub first_empty : (ns : List (List ℕ)) (ls : List (List ℕ)) → slots_from 0 (map slot_of ls) ≡ true → gathered ns 0 ls ≡ [] ∷ drop 1 (gathered ns 0 ls)
@@ -241,49 +201,30 @@ held_words ns f text h = go (gathered ns 0 (lines_of text)) (first_empty ns (lin
         let m : suc (length rs) - 1 ≡ length rs = omega arith in
         rw (q, m)
 
-pub scanning_ends : {ns : List (List ℕ)} {text : List ℕ} {at lines routes : ℕ} {sure : Bool} → Scanning ns text at lines routes sure → (n : ℕ) → n ≡ length text → n ≤ at
-    → Scanned ns text (record { good = true; known = sure; lines = lines; routes = routes })
-unfolding all slots_from gathered routes_in
-scanning_ends {ns} {text} {at} {lines} {routes} {sure} c n en h =
-    let d : drop at text ≡ [] = drop_of_length-le text {i = at} (omega arith) in
-    let l : lines_of (drop at text) ≡ [] = ap lines_of d ∙ lines_nothing in
-    let k : begun (gathered ns 0 (lines_of text)) ≡ routes = c.count ∙ rw l (omega arith) in
-    let w : length (words_from (gathered ns 0 (lines_of text))) ≡ routes + 4 * lines = c.words ∙ rw l (omega arith) in
-    let gd : text_ok text ≡ true = c.good ∙ rw (d, ended_nothing, lines_nothing) in
-    record {
-      good = sym gd;
-      known = λ t. sym (c.names ∙ rw l (both_true sure));
-      words = λ t f. ap length (held_words ns f text gd) ∙ (omega (arith, w, k));
-      routes = λ t. length-drop 1 (gathered ns 0 (lines_of text)) ∙ k;
-    }
-  where
-    both_true : (x : Bool) → (x && true) ≡ x
-    both_true true = refl
-    both_true false = refl
+module _ {ns : List (List ℕ)} {text : List ℕ} {at lines routes : ℕ} {sure : Bool} (c : Scanning ns text at lines routes sure) (h : length text ≤ at) where
+  done : lines_of (drop at text) ≡ []
+  done = ap lines_of (drop_of_length-le text {i = at} h) ∙ lines_nothing
 
-pub after_new : (slot routes more : ℕ) → slot ≡ routes → more ≡ pick (eqb slot routes) more routes
-after_new slot routes more e = rw (eq-eqb slot routes e)
+  pub scanning_good : text_ok text ≡ true
+  unfolding all slots_from
+  scanning_good = c.good ∙ rw (drop_of_length-le text {i = at} h, ended_nothing, lines_nothing)
 
-pub after_old : (slot routes more : ℕ) → (slot ≡ routes → ⊥) → routes ≡ pick (eqb slot routes) more routes
-after_old slot routes more e = rw (ne_eqb slot routes e)
+  pub scanning_known : all_known ns text ≡ sure
+  unfolding all
+  scanning_known = c.names ∙ rw done (both_true sure)
+    where
+      both_true : (x : Bool) → (x && true) ≡ x
+      both_true true = refl
+      both_true false = refl
 
-pub place_new : (to head count routes slot : ℕ) → slot ≡ routes → record { to = to + 1; head = to; count = 1; routes = routes + 1 } ≡ place_for to head count routes slot
-place_new to head count routes slot e = rw (eq-eqb slot routes e)
-
-pub place_old : (to head count routes slot : ℕ) → (slot ≡ routes → ⊥) → record { to = to; head = head; count = count + 1; routes = routes } ≡ place_for to head count routes slot
-place_old to head count routes slot e = rw (ne_eqb slot routes e)
+  pub scanning_counts : Counted ns text (record { lines = lines; routes = routes })
+  unfolding gathered routes_in
+  scanning_counts =
+      let k : begun (gathered ns 0 (lines_of text)) ≡ routes = c.count ∙ rw done (omega arith) in
+      let w : length (words_from (gathered ns 0 (lines_of text))) ≡ routes + 4 * lines = c.words ∙ rw done (omega arith) in
+      record {
+        words = λ f. ap length (held_words ns f text scanning_good) ∙ (omega (arith, w, k));
+        routes = length-drop 1 (gathered ns 0 (lines_of text)) ∙ k;
+      }
 
 -- ---- room for the words
-
-pub fits_two : (lines routes room : ℕ) → room < 2 → false ≡ leb (2 + routes + 4 * lines) room
-fits_two lines routes room h = sym (lt-leb (2 + routes + 4 * lines) room (omega arith))
-
-pub fits_routes : (lines routes room : ℕ) → 2 ≤ room → room - 2 < routes → false ≡ leb (2 + routes + 4 * lines) room
-fits_routes lines routes room h k = sym (lt-leb (2 + routes + 4 * lines) room (omega arith))
-
-pub fits_lines : (lines routes room : ℕ) → 2 ≤ room → routes ≤ room - 2 → leb lines ((room - 2 - routes) / 4) ≡ leb (2 + routes + 4 * lines) room
-fits_lines lines routes room h k = go (leb lines ((room - 2 - routes) / 4)) refl
-  where
-    go : (b : Bool) → leb lines ((room - 2 - routes) / 4) ≡ b → b ≡ leb (2 + routes + 4 * lines) room
-    go true e = let q = leb-true lines ((room - 2 - routes) / 4) e in sym (le-leb (2 + routes + 4 * lines) room (omega arith))
-    go false e = let q = leb-false lines ((room - 2 - routes) / 4) e in sym (lt-leb (2 + routes + 4 * lines) room (omega arith))

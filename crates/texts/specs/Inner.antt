@@ -1,21 +1,32 @@
 -- What the functions that read a text promise each other; nothing here is part of a public promise.
-use Rattle.std.specs.Prelude.{ℕ, ◌+◌, ◌*◌, ◌≤◌, ◌<◌, ◌≡◌, true, List, [], ◌∷◌, ◌++◌, eqb, length, drop, get_or}
+use Rattle.std.specs.Prelude.{ℕ, ◌+◌, ◌*◌, ◌≤◌, ◌<◌, ◌≡◌, true, false, Result, Ok, Err, List, [], ◌∷◌, ◌++◌, eqb, length, drop, get_or}
 use Rattle.ground.specs.Lists.{pick, all}
 use Rattle.evaluate.specs.Segments.{Route}
 use Rattle.evaluate.specs.Words.{segment_words, route_words}
 use Rattle.names.specs.Names.{lines_of, ended}
 use Rattle.rows.specs.Rows.{is_row, slot_of, segment_of}
+use Rattle.texts.specs.declared.TextRefusal.{TextRefusal}
+use Rattle.texts.specs.declared.TextRefusal.TheVariants.{Form, UnknownName}
 use Rattle.texts.specs.declared.Scan.{Scan}
 use Rattle.texts.specs.declared.Line.{Line}
 use Rattle.texts.specs.declared.Place.{Place}
 use Rattle.texts.specs.Bed.{text_ok, all_known, routes_in, held, gathered}
 
--- what a text says as a whole: 35, 36, and the number of its words
-pub record Scanned (ns : List (List ℕ)) (text : List ℕ) (r : Scan) : Type 0 where
-  pub good : r.good ≡ text_ok text
-  pub known : r.good ≡ true → r.known ≡ all_known ns text
-  pub words : r.good ≡ true → (f : ℕ) → length (held ns f text) ≡ 2 + r.routes + 4 * r.lines
-  pub routes : r.good ≡ true → length (routes_in ns (lines_of text)) ≡ r.routes
+-- 35: a line is not in the form; 36: a name is not in the table
+abbrev pub refusal_number : TextRefusal → ℕ
+refusal_number Form = 35
+refusal_number UnknownName = 36
+
+-- the number of its words
+pub record Counted (ns : List (List ℕ)) (text : List ℕ) (r : Scan) : Type 0 where
+  pub words : (f : ℕ) → length (held ns f text) ≡ 2 + r.routes + 4 * r.lines
+  pub routes : length (routes_in ns (lines_of text)) ≡ r.routes
+
+-- what a text says as a whole: 35, 36, or the number of its words
+abbrev pub Scanned : List (List ℕ) → List ℕ → Result Scan TextRefusal → Type 0
+Scanned ns text (Ok r) = (text_ok text ≡ true) × (all_known ns text ≡ true) × Counted ns text r
+Scanned ns text (Err Form) = text_ok text ≡ false
+Scanned ns text (Err UnknownName) = (text_ok text ≡ true) × (all_known ns text ≡ false)
 
 -- ---- line by line
 

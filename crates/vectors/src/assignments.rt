@@ -9,15 +9,8 @@ fn check_in(
     out: &mut [u64],
     room: usize,
 ) -> evaluate::AssignmentReply {
-    if n <= words.len() {
-        if room <= out.len() {
-            let first: usize = 0;
-            return panel_routes::panel_routes_check_assignment(
-                image,
-                &words[first..n],
-                &mut out[first..room],
-            );
-        }
+    if n <= words.len() && room <= out.len() {
+        return panel_routes::panel_routes_check_assignment(image, &words[..n], &mut out[..room]);
     }
     evaluate::AssignmentReply {
         refusal: u64::MAX,
@@ -33,9 +26,6 @@ pub fn is_check(image: &[u8], body: &[u8], arguments: usize, at: usize) -> bool 
     let mut out = rooms::marked();
     let r = check_in(image, &words, n as usize, &mut out, room as usize);
     let reply = [r.refusal, r.place, r.words];
-    if record::is_words(&reply, body, at) {
-        rooms::is_equal(out, rooms::left(0, body, record::onward(at, 3), r.words))
-    } else {
-        false
-    }
+    record::is_words(&reply, body, at)
+        && out == rooms::left(0, body, record::onward(at, 3), r.words)
 }

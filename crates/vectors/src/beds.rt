@@ -10,16 +10,8 @@ fn write_in(
     out: &mut [u8],
     room: usize,
 ) -> bed::BedReply {
-    if n <= words.len() {
-        if room <= out.len() {
-            let first: usize = 0;
-            return panel_routes::panel_routes_write_bed(
-                image,
-                names,
-                &words[first..n],
-                &mut out[first..room],
-            );
-        }
+    if n <= words.len() && room <= out.len() {
+        return panel_routes::panel_routes_write_bed(image, names, &words[..n], &mut out[..room]);
     }
     bed::BedReply {
         refusal: u64::MAX,
@@ -42,17 +34,11 @@ fn is_written(image: &[u8], names: &[u8], body: &[u8], rest: usize, at: usize, e
 }
 
 pub fn is_write(image: &[u8], body: &[u8], arguments: usize, at: usize, end: usize) -> bool {
-    let n = record::next(body, arguments, 0);
-    let from = record::onward(arguments, 1);
-    let to = spellings::behind(from, n);
-    if to < from {
+    let Some(names) = record::bytes(body, arguments) else {
         return false;
-    }
-    if body.len() < to {
-        return false;
-    }
-    let rest = record::onward(from, record::padded(n) as u64 / 8);
-    is_written(image, &body[from..to], body, rest, at, end)
+    };
+    let rest = record::past(names, arguments);
+    is_written(image, names, body, rest, at, end)
 }
 
 // The words of the lines in the first words of out; more than there are is no call.
@@ -65,14 +51,7 @@ fn read_in(
     room: usize,
 ) -> bed::BedReply {
     if room <= out.len() {
-        let first: usize = 0;
-        return panel_routes::panel_routes_read_bed(
-            image,
-            names,
-            family,
-            text,
-            &mut out[first..room],
-        );
+        return panel_routes::panel_routes_read_bed(image, names, family, text, &mut out[..room]);
     }
     bed::BedReply {
         refusal: u64::MAX,
@@ -85,41 +64,22 @@ fn read_in(
 fn is_held(image: &[u8], names: &[u8], body: &[u8], rest: usize, at: usize, end: usize) -> bool {
     let room = record::next(body, rest, 0);
     let family = record::next(body, rest, 1);
-    let n = record::next(body, rest, 2);
-    let from = record::onward(rest, 3);
-    let to = spellings::behind(from, n);
-    if to < from {
+    let Some(text) = record::bytes(body, record::onward(rest, 2)) else {
         return false;
-    }
-    if body.len() < to {
-        return false;
-    }
+    };
     let mut out = rooms::marked();
-    let r = read_in(
-        image,
-        names,
-        family,
-        &body[from..to],
-        &mut out,
-        room as usize,
-    );
+    let r = read_in(image, names, family, text, &mut out, room as usize);
     let reply = [r.refusal, r.place, r.length];
     let out_at = record::onward(at, 3);
     record::is_words(&reply, body, at)
-        && rooms::is_equal(out, rooms::left(0, body, out_at, r.length))
+        && out == rooms::left(0, body, out_at, r.length)
         && record::onward(out_at, r.length) == end
 }
 
 pub fn is_read(image: &[u8], body: &[u8], arguments: usize, at: usize, end: usize) -> bool {
-    let n = record::next(body, arguments, 0);
-    let from = record::onward(arguments, 1);
-    let to = spellings::behind(from, n);
-    if to < from {
+    let Some(names) = record::bytes(body, arguments) else {
         return false;
-    }
-    if body.len() < to {
-        return false;
-    }
-    let rest = record::onward(from, record::padded(n) as u64 / 8);
-    is_held(image, &body[from..to], body, rest, at, end)
+    };
+    let rest = record::past(names, arguments);
+    is_held(image, names, body, rest, at, end)
 }

@@ -4,8 +4,7 @@ use crate::{record, rooms};
 // The bound of the first n words; more than there are is no call.
 fn bound_in(words: &[u64], n: usize, background: f64) -> bound::BoundReply {
     if n <= words.len() {
-        let first: usize = 0;
-        return panel_routes::panel_routes_lower_bound(&words[first..n], background);
+        return panel_routes::panel_routes_lower_bound(&words[..n], background);
     }
     bound::BoundReply {
         refusal: u64::MAX,

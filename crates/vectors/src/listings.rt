@@ -15,22 +15,18 @@ fn list_in(
     let frame_words = record::next(body, arguments, 6) as usize;
     let slot_words = record::next(body, arguments, 7) as usize;
     let out_words = record::next(body, arguments, 8) as usize;
-    if frame_words <= frames.len() {
-        if slot_words <= slot.len() {
-            if out_words <= out.len() {
-                let first: usize = 0;
-                return panel_routes::panel_routes_list(
-                    image,
-                    b,
-                    from,
-                    &mut frames[first..frame_words],
-                    &mut slot[first..slot_words],
-                    &mut out[first..out_words],
-                );
-            }
-        }
+    if frame_words <= frames.len() && slot_words <= slot.len() && out_words <= out.len() {
+        panel_routes::panel_routes_list(
+            image,
+            b,
+            from,
+            &mut frames[..frame_words],
+            &mut slot[..slot_words],
+            &mut out[..out_words],
+        )
+    } else {
+        no_call()
     }
-    no_call()
 }
 
 // No recorded answer.
@@ -76,8 +72,8 @@ pub fn is_list(image: &[u8], body: &[u8], arguments: usize, at: usize, end: usiz
     let frame_words = rooms::frame_words(record::next(body, at, 6));
     let out_at = record::onward(from, frame_words);
     is_reply(r, body, at)
-        && rooms::is_equal(frames, rooms::left(n.frames, body, from, frame_words))
-        && rooms::is_equal(slot, rooms::left(n.slot, body, from, 0))
-        && rooms::is_equal(out, rooms::left(0, body, out_at, r.words))
+        && frames == rooms::left(n.frames, body, from, frame_words)
+        && slot == rooms::left(n.slot, body, from, 0)
+        && out == rooms::left(0, body, out_at, r.words)
         && record::onward(out_at, r.words) == end
 }

@@ -15,9 +15,12 @@ mod rooms;
 mod searches;
 mod spellings;
 
+ghost use Rattle.std.specs.Prelude.{◌<◌};
+
 use crate::record::Head;
 
-#[derive(Clone, Copy)]
+// How many records' answers were ours, and how many were not.
+#[derive(Clone, Copy, PartialEq, Eq, Debug, Default)]
 struct Score {
     agreed: u64,
     other: u64,
@@ -25,45 +28,26 @@ struct Score {
 
 impl Score {
     fn counted(self, is_same: bool) -> Score {
-        if is_same {
-            if self.agreed < u64::MAX {
-                return Score {
-                    agreed: self.agreed + 1,
-                    other: self.other,
-                };
-            }
-        } else {
-            if self.other < u64::MAX {
-                return Score {
-                    agreed: self.agreed,
-                    other: self.other + 1,
-                };
-            }
+        Score {
+            agreed: self.agreed.saturating_add(u64::from(is_same)),
+            other: self.other.saturating_add(u64::from(!is_same)),
         }
-        self
     }
 }
 
 // Whether a record's answer is ours.
 fn is_same(h: Head, body: &[u8]) -> bool {
-    let end = record::padded(h.image);
-    if body.len() < end {
-        return false;
+    match body.get(..h.image as usize) {
+        Some(image) => answered(h, image, body),
+        None => false,
     }
-    let n = h.image as usize;
-    if end < n {
-        return false;
-    }
-    let first: usize = 0;
-    answered(h, &body[first..n], body)
 }
 
 fn answered(h: Head, image: &[u8], body: &[u8]) -> bool {
     let arguments = record::padded(h.image);
     let at = record::expected_at(h);
     let end = record::end_at(h);
-    let kind = h.kind;
-    match kind {
+    match h.kind {
         1 => lookups::is_panel(image, body, at),
         2 => lookups::is_port(image, body, arguments, at),
         3 => lookups::is_bucket_of(image, body, arguments, at),
@@ -81,121 +65,49 @@ fn answered(h: Head, image: &[u8], body: &[u8]) -> bool {
     }
 }
 
-// What was counted so far: by call, in the order of their kinds.
-#[derive(Clone, Copy)]
-struct Sheet {
-    panel: Score,
-    port: Score,
-    bucket: Score,
-    check: Score,
-    list: Score,
-    search: Score,
-    job: Score,
-    bound: Score,
-    plain: Score,
-    letters: Score,
-    spell: Score,
-    write: Score,
-    read: Score,
-    unknown: Score,
-}
+// The kinds' names, in the order of their numbers; behind them that of every other.
+const NAMES: [&str; 14] = [
+    "panel", "port", "bucket", "check", "list", "search", "job", "bound", "plain", "letters",
+    "spell", "write", "read", "unknown",
+];
 
-impl Sheet {
-    fn counted(self, kind: u64, is_same: bool) -> Sheet {
-        let mut s = self;
-        match kind {
-            1 => {
-                s.panel = s.panel.counted(is_same);
-            }
-            2 => {
-                s.port = s.port.counted(is_same);
-            }
-            3 => {
-                s.bucket = s.bucket.counted(is_same);
-            }
-            4 => {
-                s.check = s.check.counted(is_same);
-            }
-            5 => {
-                s.list = s.list.counted(is_same);
-            }
-            6 => {
-                s.search = s.search.counted(is_same);
-            }
-            7 => {
-                s.job = s.job.counted(is_same);
-            }
-            8 => {
-                s.bound = s.bound.counted(is_same);
-            }
-            9 => {
-                s.plain = s.plain.counted(is_same);
-            }
-            10 => {
-                s.letters = s.letters.counted(is_same);
-            }
-            11 => {
-                s.spell = s.spell.counted(is_same);
-            }
-            12 => {
-                s.write = s.write.counted(is_same);
-            }
-            13 => {
-                s.read = s.read.counted(is_same);
-            }
-            _ => {
-                s.unknown = s.unknown.counted(is_same);
-            }
-        }
-        s
+// A kind's place among the names.
+fn place_of(kind: u64) -> usize
+    ensures { result < 14 }
+{
+    if (1..=13).contains(&kind) {
+        kind as usize - 1
+    } else {
+        13
     }
 }
 
-#[derive(Clone, Copy)]
-enum Step {
-    More(Sheet),
-    End(Sheet),
+// Why no more records are read: the stream ends, or a record is none.
+#[derive(Clone, Copy, PartialEq, Eq, Debug)]
+enum Stop {
+    End,
+    Malformed,
 }
 
-// The first n bytes of the room from standard input.
-fn read_part(room: &mut [u8], n: usize) {
-    if n <= room.len() {
-        let from: usize = 0;
-        io::read_full(0, &mut room[from..n]);
-    }
-}
-
-fn read_body(room: &mut [u8; 4096], n: usize) {
-    read_part(room, n);
-}
-
-fn is_same_record(h: Head, room: &[u8; 4096]) -> bool {
-    is_same(h, room)
-}
-
-// One record more; a head that is cut short ends the stream.
-fn one_more(sheet: Sheet) -> Step {
+// One record more: its kind, and whether its answer is ours. A head that is cut short ends the stream.
+fn one_more() -> Result<(u64, bool), Stop> {
     let mut head = [0u8; 40];
-    let got = io::read_full(0, &mut head);
-    if got < 40 {
-        return Step::End(sheet);
+    if io::read_full(0, &mut head) < 40 {
+        return Err(Stop::End);
     }
     let h = record::head_of(&head);
     let mut room = io::buffer();
-    if h.whole < 40 {
-        return Step::End(sheet.counted(0, false));
+    if !(40..=4136).contains(&h.whole) {
+        return Err(Stop::Malformed);
     }
-    let n = h.whole - 40;
-    if 4096 < n {
-        return Step::End(sheet.counted(0, false));
-    }
-    read_body(&mut room, n as usize);
-    let same = is_same_record(h, &room);
-    Step::More(sheet.counted(h.kind, same))
+    let n = h.whole as usize - 40;
+    io::read_full(0, &mut room[..n]);
+    Ok((h.kind, is_same(h, &room)))
 }
 
-fn print(name: &[u8], s: Score) {
-    io::write_all(1, name);
+fn print(name: &str, s: Score) {
+    io::write_all(1, name.as_bytes());
+    io::write_all(1, b" ");
     io::print_decimal(1, s.agreed);
     io::write_all(1, b" agree, ");
     io::print_decimal(1, s.other);
@@ -203,51 +115,21 @@ fn print(name: &[u8], s: Score) {
 }
 
 fn main() {
-    let none = Score {
-        agreed: 0,
-        other: 0,
-    };
-    let mut sheet = Sheet {
-        panel: none,
-        port: none,
-        bucket: none,
-        check: none,
-        list: none,
-        search: none,
-        job: none,
-        bound: none,
-        plain: none,
-        letters: none,
-        spell: none,
-        write: none,
-        read: none,
-        unknown: none,
-    };
-    let mut turns: u64 = 1000000;
-    while turns > 0 {
-        match one_more(sheet) {
-            Step::More(s) => {
-                sheet = s;
-                turns -= 1;
+    let mut scores = [Score::default(); 14];
+    for _ in 0..1000000 {
+        match one_more() {
+            Ok((kind, same)) => {
+                let place = place_of(kind);
+                scores[place] = scores[place].counted(same);
             }
-            Step::End(s) => {
-                sheet = s;
-                turns = 0;
+            Err(Stop::Malformed) => {
+                scores[13] = scores[13].counted(false);
+                break;
             }
+            Err(Stop::End) => break,
         }
     }
-    print(b"panel ", sheet.panel);
-    print(b"port ", sheet.port);
-    print(b"bucket ", sheet.bucket);
-    print(b"check ", sheet.check);
-    print(b"list ", sheet.list);
-    print(b"search ", sheet.search);
-    print(b"job ", sheet.job);
-    print(b"bound ", sheet.bound);
-    print(b"plain ", sheet.plain);
-    print(b"letters ", sheet.letters);
-    print(b"spell ", sheet.spell);
-    print(b"write ", sheet.write);
-    print(b"read ", sheet.read);
-    print(b"unknown ", sheet.unknown);
+    for (name, score) in NAMES.iter().zip(&scores) {
+        print(name, *score);
+    }
 }

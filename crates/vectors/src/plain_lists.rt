@@ -4,8 +4,7 @@ use crate::{record, rooms};
 // The list in the first words of out; more than there are is no call.
 fn plain_in(image: &[u8], from: u64, out: &mut [u64], room: usize) -> engine::PlainReply {
     if room <= out.len() {
-        let first: usize = 0;
-        return panel_routes::panel_routes_plain_list(image, from, &mut out[first..room]);
+        return panel_routes::panel_routes_plain_list(image, from, &mut out[..room]);
     }
     engine::PlainReply {
         refusal: u64::MAX,
@@ -23,6 +22,6 @@ pub fn is_plain(image: &[u8], body: &[u8], arguments: usize, at: usize, end: usi
     let reply = [r.refusal, r.place, r.written, r.words];
     let out_at = record::onward(at, 4);
     record::is_words(&reply, body, at)
-        && rooms::is_equal(out, rooms::left(0, body, out_at, r.words))
+        && out == rooms::left(0, body, out_at, r.words)
         && record::onward(out_at, r.words) == end
 }

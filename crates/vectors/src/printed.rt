@@ -3,15 +3,7 @@ use crate::record;
 
 // Whether the text is the one behind a byte offset: as words, with the zeros that follow both.
 fn is_text(text: &[u8], body: &[u8], at: usize) -> bool {
-    let mut i: usize = 0;
-    while i < 512 {
-        if record::word(text, 8 * i) == record::next(body, at, i) {
-            i += 1;
-        } else {
-            return false;
-        }
-    }
-    true
+    (0..512).all(|i| record::word(text, 8 * i) == record::next(body, at, i))
 }
 
 fn is_printed(text: &[u8; sheets::ROOM], n: u64, body: &[u8], at: usize, end: usize) -> bool {

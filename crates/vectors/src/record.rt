@@ -3,17 +3,14 @@ ghost use Rattle.std.specs.Prelude.{◌≤◌};
 
 // The word at a byte offset, or 0 past the end.
 pub fn word(s: &[u8], at: usize) -> u64 {
-    if s.len() < 8 {
-        return 0;
+    match s.len().checked_sub(8) {
+        Some(last) if at <= last => storage::word_at(s, at),
+        _ => 0,
     }
-    if s.len() - 8 < at {
-        return 0;
-    }
-    storage::word_at(s, at)
 }
 
 // A head of five words: the kind, the bytes of the whole record, of the image, the argument words, the expected words.
-#[derive(Clone, Copy)]
+#[derive(Clone, Copy, PartialEq, Eq, Debug)]
 pub struct Head {
     pub kind: u64,
     pub whole: u64,
@@ -36,40 +33,58 @@ pub fn head_of(s: &[u8]) -> Head {
 pub fn padded(image: u64) -> usize
     ensures { result ≤ 4096 }
 {
-    if 4096 < image {
-        return 4096;
-    }
-    ((image + 7) / 8 * 8) as usize
+    (image.min(4096).div_ceil(8) * 8) as usize
 }
 
 // Where the expected words begin in the body.
 pub fn expected_at(h: Head) -> usize {
-    if 512 < h.arguments {
-        return 8192;
+    if h.arguments > 512 {
+        8192
+    } else {
+        padded(h.image) + 8 * h.arguments as usize
     }
-    padded(h.image) + 8 * h.arguments as usize
 }
 
 // Word i behind a byte offset.
 pub fn next(body: &[u8], at: usize, i: usize) -> u64 {
-    if 16384 < at {
-        return 0;
+    if at > 16384 || i > 512 {
+        0
+    } else {
+        word(body, at + 8 * i)
     }
-    if 512 < i {
-        return 0;
-    }
-    word(body, at + 8 * i)
 }
 
 // The byte offset n words on; past every record where n is more than a record has.
 pub fn onward(at: usize, n: u64) -> usize {
-    if 16384 < at {
-        return at;
+    if at > 16384 {
+        at
+    } else if n > 512 {
+        16385
+    } else {
+        at + 8 * n as usize
     }
-    if 512 < n {
-        return 16385;
+}
+
+// The byte offset n bytes on; past every record where n is more than a record has.
+fn behind(at: usize, n: u64) -> usize {
+    if at > 16384 {
+        at
+    } else if n > 4096 {
+        16385
+    } else {
+        at + n as usize
     }
-    at + 8 * n as usize
+}
+
+// The bytes that a byte offset has: how many, then the bytes; none where the body ends before them.
+pub fn bytes(body: &[u8], at: usize) -> Option<&[u8]> {
+    let from = onward(at, 1);
+    body.get(from..behind(from, next(body, at, 0)))
+}
+
+// The byte offset behind bytes and their number.
+pub fn past(bytes: &[u8], at: usize) -> usize {
+    onward(onward(at, 1), padded(bytes.len() as u64) as u64 / 8)
 }
 
 // Where the record ends.
@@ -79,24 +94,18 @@ pub fn end_at(h: Head) -> usize {
 
 // Whether the words are those behind a byte offset.
 pub fn is_words(words: &[u64], body: &[u8], at: usize) -> bool {
-    let n = words.len();
-    let mut i: usize = 0;
-    while i < n {
-        if words[i] == next(body, at, i) {
-            i += 1;
-        } else {
-            return false;
-        }
-    }
-    true
+    words
+        .iter()
+        .enumerate()
+        .all(|(i, w)| *w == next(body, at, i))
 }
 
 // The bits of a double, of every NaN the same.
 pub fn bits_of(x: f64) -> u64 {
-    if x == x {
-        f64::to_bits(x)
-    } else {
+    if x.is_nan() {
         0x7ff8_0000_0000_0000
+    } else {
+        x.to_bits()
     }
 }
 

@@ -1,18 +1,13 @@
 // Kind 6: the search.
 use crate::{record, rooms};
+use std::array;
 
 // More scores than any record has.
 const SCORES: usize = 64;
 
 // The scores behind the words of arguments that come before them.
 fn scores_of(body: &[u8], arguments: usize) -> [f64; SCORES] {
-    let mut scores = [0.0f64; SCORES];
-    let mut i: usize = 0;
-    while i < SCORES {
-        scores[i] = doubles::of_bits(record::next(body, arguments, 9 + i));
-        i += 1;
-    }
-    scores
+    array::from_fn(|i| doubles::of_bits(record::next(body, arguments, 9 + i)))
 }
 
 // The search on the first scores, in the first words of each room; more than there are is no call.
@@ -30,24 +25,22 @@ fn search_in(
     let kept_words = record::next(body, arguments, 6) as usize;
     let kept_count = record::next(body, arguments, 7) as usize;
     let count = record::next(body, arguments, 8) as usize;
-    if count <= scores.len() {
-        if frame_words <= frames.len() {
-            if kept_words <= kept.len() {
-                if kept_count <= kept_scores.len() {
-                    let first: usize = 0;
-                    return panel_routes::panel_routes_search(
-                        image,
-                        b,
-                        &scores[first..count],
-                        &mut frames[first..frame_words],
-                        &mut kept[first..kept_words],
-                        &mut kept_scores[first..kept_count],
-                    );
-                }
-            }
-        }
+    if count <= scores.len()
+        && frame_words <= frames.len()
+        && kept_words <= kept.len()
+        && kept_count <= kept_scores.len()
+    {
+        panel_routes::panel_routes_search(
+            image,
+            b,
+            &scores[..count],
+            &mut frames[..frame_words],
+            &mut kept[..kept_words],
+            &mut kept_scores[..kept_count],
+        )
+    } else {
+        no_call()
     }
-    no_call()
 }
 
 // No recorded answer.
@@ -96,17 +89,14 @@ fn is_reply(r: search::SearchReply, body: &[u8], at: usize) -> bool {
 
 // The frames of an answer, a pending child counted.
 fn frames_of(body: &[u8], at: usize) -> u64 {
-    if record::next(body, at, 15) == 1 {
-        rooms::and_one(record::next(body, at, 14))
-    } else {
-        record::next(body, at, 14)
-    }
+    let pending = u64::from(record::next(body, at, 15) == 1);
+    record::next(body, at, 14).saturating_add(pending)
 }
 
 // The assignments kept: an incumbent where there was an evaluation, and the tied optima.
 fn kept_of(body: &[u8], at: usize) -> u64 {
-    if 0 < record::next(body, at, 4) {
-        rooms::and_one(record::next(body, at, 12))
+    if record::next(body, at, 4) > 0 {
+        record::next(body, at, 12).saturating_add(1)
     } else {
         0
     }
@@ -115,12 +105,10 @@ fn kept_of(body: &[u8], at: usize) -> u64 {
 // The scores of the n assignments kept, in their places of the room.
 fn lay_scores(room: &mut [u64], body: &[u8], at: usize, n: u64) {
     let mut here = at;
-    let mut i: u64 = 0;
-    while i < n {
+    for i in 0..n {
         rooms::put(room, i as usize, record::next(body, here, 0));
         let words = record::next(body, here, 1);
         here = record::onward(record::onward(here, 2), words);
-        i += 1;
     }
 }
 
@@ -128,14 +116,12 @@ fn lay_scores(room: &mut [u64], body: &[u8], at: usize, n: u64) {
 fn lay_slots(room: &mut [u64], body: &[u8], at: usize, n: u64, slot: usize) -> usize {
     let mut here = at;
     let mut place: usize = 0;
-    let mut i: u64 = 0;
-    while i < n {
+    for _ in 0..n {
         let words = record::next(body, here, 1);
         here = record::onward(here, 2);
         rooms::lay(room, place, body, here, words);
         here = record::onward(here, words);
-        place = rooms::further(place, slot);
-        i += 1;
+        place = place.saturating_add(slot);
     }
     here
 }
@@ -147,14 +133,14 @@ fn is_kept(
     at: usize,
     count: u64,
     end: usize,
-    kept: [u64; rooms::WORDS],
-    scores: [f64; rooms::WORDS],
+    kept: &[u64; rooms::WORDS],
+    scores: &[f64; rooms::WORDS],
 ) -> bool {
     let mut words = rooms::left(n.kept, body, at, 0);
     let mut bits = rooms::left(n.scores, body, at, 0);
     let last = lay_slots(&mut words, body, at, count, n.slot);
     lay_scores(&mut bits, body, at, count);
-    rooms::is_equal(kept, words) && rooms::is_bits(scores, bits) && last == end
+    *kept == words && rooms::is_bits(scores, &bits) && last == end
 }
 
 pub fn is_search(image: &[u8], body: &[u8], arguments: usize, at: usize, end: usize) -> bool {
@@ -176,6 +162,14 @@ pub fn is_search(image: &[u8], body: &[u8], arguments: usize, at: usize, end: us
     let frame_words = rooms::frame_words(frames_of(body, at));
     let kept_at = record::onward(from, frame_words);
     is_reply(r, body, at)
-        && rooms::is_equal(frames, rooms::left(n.frames, body, from, frame_words))
-        && is_kept(n, body, kept_at, kept_of(body, at), end, kept, kept_scores)
+        && frames == rooms::left(n.frames, body, from, frame_words)
+        && is_kept(
+            n,
+            body,
+            kept_at,
+            kept_of(body, at),
+            end,
+            &kept,
+            &kept_scores,
+        )
 }

@@ -4,36 +4,18 @@ use crate::{record, rooms};
 // What stands in a room of bytes before a call: no letter, and none of BED.
 pub const MARK: u8 = 0xa5;
 
-fn byte(s: &[u8], at: usize) -> u8 {
-    if at < s.len() { s[at] } else { 0 }
-}
-
-// The byte offset n bytes on; past every record where n is more than a record has.
-pub fn behind(at: usize, n: u64) -> usize {
-    if 16384 < at {
-        return at;
-    }
-    if 4096 < n {
-        return 16385;
-    }
-    at + n as usize
-}
-
 // Whether the room has the n bytes behind a byte offset at its start and is as it was behind them.
 pub fn is_left(room: &[u8; rooms::WORDS], body: &[u8], at: usize, n: u64) -> bool {
-    if 16384 < at {
+    if at > 16384 {
         return false;
     }
-    let mut i: usize = 0;
-    while i < rooms::WORDS {
+    for (i, x) in room.iter().enumerate() {
         let there = if (i as u64) < n {
-            byte(body, at + i)
+            body.get(at + i).copied().unwrap_or(0)
         } else {
             MARK
         };
-        if room[i] == there {
-            i += 1;
-        } else {
+        if *x != there {
             return false;
         }
     }
@@ -47,16 +29,8 @@ fn is_checked(image: &[u8], letters: &[u8], body: &[u8], at: usize) -> bool {
 }
 
 pub fn is_letters(image: &[u8], body: &[u8], arguments: usize, at: usize, end: usize) -> bool {
-    let n = record::next(body, arguments, 0);
-    let from = record::onward(arguments, 1);
-    let to = behind(from, n);
-    if to < from {
-        return false;
-    }
-    if body.len() < to {
-        return false;
-    }
-    is_checked(image, &body[from..to], body, at) && record::onward(at, 2) == end
+    record::bytes(body, arguments).is_some_and(|letters| is_checked(image, letters, body, at))
+        && record::onward(at, 2) == end
 }
 
 // The crop in the first bytes of out, of the first n words; more than there are is no call.
@@ -73,19 +47,16 @@ fn spell_in(
     let from = record::next(body, rest, 2);
     let to = record::next(body, rest, 3);
     let n = record::next(body, rest, 4) as usize;
-    if n <= words.len() {
-        if room <= out.len() {
-            let first: usize = 0;
-            return panel_routes::panel_routes_spell(
-                image,
-                letters,
-                &words[first..n],
-                slot,
-                from,
-                to,
-                &mut out[first..room],
-            );
-        }
+    if n <= words.len() && room <= out.len() {
+        return panel_routes::panel_routes_spell(
+            image,
+            letters,
+            &words[..n],
+            slot,
+            from,
+            to,
+            &mut out[..room],
+        );
     }
     spell::SpellReply {
         refusal: u64::MAX,
@@ -118,15 +89,9 @@ fn is_spelled(
 }
 
 pub fn is_spell(image: &[u8], body: &[u8], arguments: usize, at: usize, end: usize) -> bool {
-    let n = record::next(body, arguments, 0);
-    let from = record::onward(arguments, 1);
-    let to = behind(from, n);
-    if to < from {
+    let Some(letters) = record::bytes(body, arguments) else {
         return false;
-    }
-    if body.len() < to {
-        return false;
-    }
-    let rest = record::onward(from, record::padded(n) as u64 / 8);
-    is_spelled(image, &body[from..to], body, rest, at, end)
+    };
+    let rest = record::past(letters, arguments);
+    is_spelled(image, letters, body, rest, at, end)
 }

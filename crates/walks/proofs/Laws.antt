@@ -11,10 +11,7 @@ use mathlib.Core.List.{List, [], ◌∷◌, ◌++◌, append-nil, append_assoc}
 use lib.Dec.{leb, ltb}
 use lib.ListN.{length, take, drop, get_or, replicate, length-append, length-replicate}
 use lib.Seq.{length-take-le}
-use mir.Val.{Fits}
-use mir.Syntax.{w64}
-use borrow.Author.Rules.{Fits-under}
-use borrow.Author.Tests.{le-leb, lt-leb, lt-ltb, le-ltb, leb-true}
+use borrow.Author.Tests.{le-leb, lt-leb, lt-ltb, le-ltb}
 use Rattle.ground.specs.Lists.{pick, sum}
 use Rattle.storage.specs.Records.{no_port}
 use Rattle.image.specs.declared.Header.{Header}
@@ -77,15 +74,6 @@ pub record Outer (s : List ℕ) (h : Header) (b : SearchBudget) (xs₀ : List �
   pub kept : Kept b xs₀ xs
   pub more : t₀.work ≤ t.work
 
-pub outer_start : (s : List ℕ) (h : Header) (b : SearchBudget) (xs : List ℕ) (t : Tally) (d start : ℕ) (flag : Bool) → Walking s h b xs t d start flag → Outer s h b xs t d xs t d start flag
-outer_start s h b xs t d start flag w = record { total = refl; walking = w; kept = kept_refl b xs; more = omega arith }
-
-pub going_start : (s : List ℕ) (h : Header) (b : SearchBudget) (family : Family) (xs₀ : List ℕ) (t₀ : Tally) (d₀ : ℕ) (xs : List ℕ) (t : Tally) (d start : ℕ) (flag : Bool) → Outer s h b xs₀ t₀ d₀ xs t d start flag
-    → Groups s h family → family.number ≡ t.families → Going s h b family start xs t d xs t d flag
-going_start s h b family xs₀ t₀ d₀ xs t d start flag o g e =
-    let c : get_or (path_counts h s) t.families 0 ≡ family.count = ap (λ (n : ℕ). get_or (path_counts h s) n 0) (sym e) ∙ sym g.count in
-    record { total = refl; held = rw c at o.walking.held; kept = kept_refl b xs; same = sym e; groups = g; more = omega arith; begins = o.walking.begins }
-
 -- ---- a unit
 
 pub ready_of : (s : List ℕ) (h : Header) (starts : List ℕ) (b : SearchBudget) (family : Family) (start : ℕ) (xs₀ : List ℕ) (t₀ : Tally) (d₀ : ℕ) (xs : List ℕ) (t : Tally) (d : ℕ) (flag : Bool) → Accepted s h → Started s h starts
@@ -111,9 +99,13 @@ left_gone p w k (g ∷ rest) = refl
 spend_is : (t : Tally) (k : ℕ) (st rest : List Frame) → spend (walk_of t st) k rest ≡ walk_of (spent_of t k) rest
 spend_is t k st rest = rw add-one
 
-module _ (s : List ℕ) (h : Header) (b : SearchBudget) (family : Family) (start : ℕ) (xs₀ : List ℕ) (t₀ : Tally) (d₀ : ℕ) (xs : List ℕ) (t : Tally) (d : ℕ) (flag : Bool) (ys : List ℕ) (u : Tally) (turn : Turn)
+module _ (s : List ℕ) (h : Header) (b : SearchBudget) (family : Family) (start : ℕ) (xs₀ : List ℕ) (t₀ : Tally) (d₀ : ℕ) (xs : List ℕ) (t : Tally) (d : ℕ) (flag : Bool) (ys : List ℕ) (turn : Turn)
     (g : Going s h b family start xs₀ t₀ d₀ xs t d flag) (n : d ≡ 0 → ⊥) (lw : t.work < b.max_work) (le : t.evaluations < b.max_evaluations) (m : Moved s h family xs ys (d - 1) turn)
-    (eu : u ≡ spent_of t turn.taken) (acc : Accepted s h) where
+    (acc : Accepted s h) where
+  -- the counters then
+  abbrev u : Tally
+  u = spent_of t turn.taken
+
   some : 0 < d
   some = omega arith
 
@@ -172,19 +164,19 @@ module _ (s : List ℕ) (h : Header) (b : SearchBudget) (family : Family) (start
       rw m.room (rw e at (linked_retop xs (d - 1) turn.frame top_room m.turned.alike (rw (← e) at g.held.linked)))
 
   worked_then : u.work ≤ b.max_work
-  worked_then = rw eu (omega arith)
+  worked_then = omega arith
 
   taken_then : u.donors ≤ u.work
-  taken_then = let k = g.held.taken in let o = taken_small s h family xs ys (d - 1) turn m in rw eu (omega arith)
+  taken_then = let k = g.held.taken in let o = taken_small s h family xs ys (d - 1) turn m in omega arith
 
   same_then : u.families ≡ family.number
-  same_then = rw eu g.same
+  same_then = g.same
 
   begins_then : start ≡ sum (take u.families (path_counts h s))
-  begins_then = rw eu g.begins
+  begins_then = g.begins
 
   more_then : t₀.work ≤ u.work
-  more_then = let o = g.more in rw eu (omega arith)
+  more_then = let o = g.more in omega arith
 
   flagged_then : Flagged (panel_of s) (frame_of ys (d - 1)) turn.clear
   flagged_then = rw top_frame m.turned.flagged
@@ -214,7 +206,7 @@ module _ (s : List ℕ) (h : Header) (b : SearchBudget) (family : Family) (start
       }
 
   spend_told : (st : List Frame) → run (panel_of s) b (b.max_work - (t.work + 1)) (going (spend (walk_of t (stack_of xs d)) turn.taken st)) ≡ run (panel_of s) b (b.max_work - u.work) (going (walk_of u st))
-  spend_told st = rw (spend_is t turn.taken (stack_of xs d) st, eu)
+  spend_told st = rw (spend_is t turn.taken (stack_of xs d) st)
 
   pub by_pass : turn.action ≡ Pass → Going s h b family start xs₀ t₀ d₀ ys u d turn.clear
   by_pass e =
@@ -235,7 +227,7 @@ module _ (s : List ℕ) (h : Header) (b : SearchBudget) (family : Family) (start
 
   leave_told : run (panel_of s) b (b.max_work - (t.work + 1)) (gone (panel_of s) (spend (walk_of t (stack_of xs d)) turn.taken (stack_of xs (d - 1))) (stack_of xs (d - 1))) ≡ to_go (panel_of s) b u ys (d - 1)
   unfolding to_go
-  leave_told = rw (spend_is t turn.taken (stack_of xs d) (stack_of xs (d - 1)), below_then, eu)
+  leave_told = rw (spend_is t turn.taken (stack_of xs d) (stack_of xs (d - 1)), below_then)
 
   pub by_leave : turn.action ≡ Leave → Going s h b family start xs₀ t₀ d₀ ys u (d - 1) turn.clear
   by_leave e =
@@ -271,9 +263,6 @@ module _ (s : List ℕ) (h : Header) (b : SearchBudget) (family : Family) (start
     path_down e k =
         rw (top_path, top_stored)
         (alike_below (path_at xs (d - 1)) turn.frame (stored_at xs (d - 1)) e m.turned.alike ∙ alike_path (path_at xs (d - 1)) (stored_at xs (d - 1)) e c k)
-
-    pub child_lane : c.source < h.lanes
-    child_lane = (m.turned.child c ea).lane
 
     module _ (e : Stored) (zs : List ℕ) (ee : e ≡ entered (panel_of s) c) (ez : zs ≡ put ys d e) (lf : d < b.max_frontier) where
       alike_child : Alike e c
@@ -358,8 +347,8 @@ module _ (s : List ℕ) (h : Header) (b : SearchBudget) (family : Family) (start
       → Going s h b family start xs₀ t₀ d₀ (put xs (d - 1) (moved_to (stored_at xs (d - 1)) (stored_at xs (d - 1)).next ((stored_at xs (d - 1)).hub_next + 1) (stored_at xs (d - 1)).hub_end)) (spent_of t 1) d false
   unfolding frame_of
   one_over xs t d g n lw le term lt =
-      by_pass s h b family start xs₀ t₀ d₀ xs t d false _ (spent_of t 1) (record { action = Pass; frame = after; taken = 1; clear = false }) g n lw le
-      (record { turned = hub_member s h family lane xs (d - 1) top false after on term (λ z. absurd (omega arith)) (g.held.flagged (omega arith)) Pass lt (meets_blocked s h family top false refl) refl; room = refl }) refl acc refl
+      by_pass s h b family start xs₀ t₀ d₀ xs t d false _ (record { action = Pass; frame = after; taken = 1; clear = false }) g n lw le
+      (record { turned = hub_member s h family lane xs (d - 1) top false after on term (λ z. absurd (omega arith)) (g.held.flagged (omega arith)) Pass lt (meets_blocked s h family top false refl) refl; room = refl }) acc refl
     where
       top : Stored
       top = stored_at xs (d - 1)
@@ -425,22 +414,9 @@ module _ (s : List ℕ) (h : Header) (b : SearchBudget) (family : Family) (start
         begins = rw q.families g.begins;
       }
 
-  pub under_of : (xs : List ℕ) (t : Tally) (d : ℕ) (flag : Bool) → Going s h b family start xs₀ t₀ d₀ xs t d flag → (d ≡ 0 → ⊥) → t.work < b.max_work → t.evaluations < b.max_evaluations → Under s h b xs t d flag
-  under_of xs t d flag g n lw le =
-      let c : family.count ≡ get_or (path_counts h s) t.families 0 = g.groups.count ∙ ap (λ (n : ℕ). get_or (path_counts h s) n 0) (sym g.same) in
-      let e = g.same in
-      let o = g.groups.family in
-      record { held = rw c at g.held; some = omega arith; family = omega arith; work = lw; evaluations = le }
-
-pub passed_none : (s : List ℕ) (h : Header) (b : SearchBudget) (xs : List ℕ) (t : Tally) (d : ℕ) (flag : Bool) → Under s h b xs t d flag → Passed s h b xs xs t t d flag
-passed_none s h b xs t d flag u = record { total = refl; held = u.held; kept = kept_refl b xs; under = u.work; more = omega arith; same = refl; families = refl }
-
 module _ (s : List ℕ) (h : Header) (b : SearchBudget) (xs ys : List ℕ) (t v : Tally) (d : ℕ) (flag : Bool) (q : Passed s h b xs ys t v d flag) where
   pub over_evaluations : t.evaluations < b.max_evaluations → v.evaluations < b.max_evaluations
   over_evaluations l = rw q.same l
-
-  pub over_less : (u : Tally) (k : ℕ) → u ≡ spent_of v k → b.max_work - u.work < b.max_work - t.work
-  over_less u k e = let m = q.more in let l = q.under in rw e (omega arith)
 
 -- ---- ports passed over at once
 
@@ -558,8 +534,8 @@ module _ (s : List ℕ) (h : Header) (b : SearchBudget) (xs : List ℕ) (t₀ : 
         → Blocked s h l (path_at xs (d - 1)) g → Striding s h b xs t₀ d l g (worked_of t 1)
     pass_once g turned work alike begun blocked =
         let u : spent_of t 0 ≡ worked_of t 1 = spent_none t in
-        let on = by_pass s h b (family_at s h t₀) (sum (take t₀.families (path_counts h s))) xs t₀ d (put xs (d - 1) f) t d false (put (put xs (d - 1) f) (d - 1) g) (spent_of t 0)
-        (record { action = Pass; frame = g; taken = 0; clear = false }) k.going not_none k.under evaluations_on (record { turned = rw top_is turned; room = refl }) refl acc refl in
+        let on = by_pass s h b (family_at s h t₀) (sum (take t₀.families (path_counts h s))) xs t₀ d (put xs (d - 1) f) t d false (put (put xs (d - 1) f) (d - 1) g)
+        (record { action = Pass; frame = g; taken = 0; clear = false }) k.going not_none k.under evaluations_on (record { turned = rw top_is turned; room = refl }) acc refl in
         record {
           going = rw (put_again xs (d - 1) f g k.room, u) at on;
           alike =
@@ -615,24 +591,17 @@ module _ (s : List ℕ) (h : Header) (b : SearchBudget) (xs : List ℕ) (t₀ : 
           rw (eu, two, ← v) (one_past (moved_to f f.next 0 0) (worked_of t 1) c g (record { how = p.how }) refl e.some e.few (omega arith))
 
   -- the members that the open hub has left, as far as work leads
-  module _ (f : Stored) (t : Tally) (k : Striding s h b xs t₀ d l f t) (x m : ℕ) (g : Stored) (u : Tally) (ex : x ≡ f.hub_end - f.hub_next) (em : m ≡ min x (b.max_work - t.work - 1))
-      (eg : g ≡ moved_to f f.next (f.hub_next + m) f.hub_end) (eu : u ≡ took_of t m) where
-    pub stride_turn : Striding s h b xs t₀ d l g u
-    stride_turn = stride_members f t k m g u (omega arith) (omega arith) eg eu
-
-    pub turn_less : (n : ℕ) (v : Tally) → v ≡ worked_of u (n + 1) → Further b l g u → b.max_work - v.work < b.max_work - t.work
-    turn_less n v ev e =
-        let w = e.work in
-        let c : u.work ≡ t.work + m = rw eu in
-        let z : v.work ≡ u.work + (n + 1) = rw ev in
-        omega arith
+  module _ (f : Stored) (t : Tally) (k : Striding s h b xs t₀ d l f t) (x m : ℕ) (g : Stored) (ex : x ≡ f.hub_end - f.hub_next) (em : m ≡ min x (b.max_work - t.work - 1))
+      (eg : g ≡ moved_to f f.next (f.hub_next + m) f.hub_end) where
+    pub stride_turn : Striding s h b xs t₀ d l g (took_of t m)
+    stride_turn = stride_members f t k m g (took_of t m) (omega arith) (omega arith) eg refl
 
     -- where work is left behind them, no member is
-    pub stride_next : (n : ℕ) (r : Stored) (v : Tally) → Further b l g u → n ≡ pick (ltb 0 g.hub_end) 1 0 → Past s h l g r → v ≡ worked_of u (n + 1) → Striding s h b xs t₀ d l r v
-    stride_next n r v e en p ev =
-        let w : t.work + m + 3 ≤ b.max_work = rw eu at e.work in
+    pub stride_next : (n : ℕ) (r : Stored) → Further b l g (took_of t m) → n ≡ pick (ltb 0 g.hub_end) 1 0 → Past s h l g r → Striding s h b xs t₀ d l r (worked_of (took_of t m) (n + 1))
+    stride_next n r e en p =
+        let w : t.work + m + 3 ≤ b.max_work = e.work in
         let used : g.hub_end ≤ g.hub_next = rw eg (omega arith) in
-        stride_past g u n r v stride_turn e used en p ev
+        stride_past g (took_of t m) n r (worked_of (took_of t m) (n + 1)) stride_turn e used en p refl
 
   pub strode : (f : Stored) (t : Tally) (ys : List ℕ) → Striding s h b xs t₀ d l f t → ys ≡ put xs (d - 1) f → Passed s h b xs ys t₀ t d false
   strode f t ys k ey =
@@ -647,51 +616,16 @@ module _ (s : List ℕ) (h : Header) (b : SearchBudget) (xs : List ℕ) (t₀ : 
         families = k.going.same;
       })
 
-pub not_further : (b : SearchBudget) (l : Lane) (f : Stored) (t : Tally) → false ≡ true → Further b l f t
-not_further b l f t e = let z : ◌≡◌ {A = ℕ} 0 1 = cc in absurd (omega arith)
-
-pub further : (b : SearchBudget) (l : Lane) (f : Stored) (t : Tally) → 3 ≤ b.max_work - t.work → (f.next ≡ 0 → ⊥) → leb f.next l.count ≡ true → Further b l f t
-further b l f t w n e = record { work = omega arith; some = omega arith; few = leb-true f.next l.count e }
-
-pub close_some : (n : ℕ) → 0 < n → ◌≡◌ {A = ℕ} 1 (pick (ltb 0 n) 1 0)
-close_some n h = rw (lt-ltb 0 n h)
-
-pub close_none : (n : ℕ) → n ≤ 0 → ◌≡◌ {A = ℕ} 0 (pick (ltb 0 n) 1 0)
-close_none n h = rw (le-ltb 0 n h)
-
-pub least_left : (x y m : ℕ) → m ≡ min x y → m ≤ x
-least_left x y m e = omega arith
-
-pub least_right : (x y m : ℕ) → m ≡ min x y → m ≤ y
-least_right x y m e = omega arith
-
-pub fewer_none : (f : Stored) (m : ℕ) → m ≡ 0
-    → ◌≡◌ {A = Stored} (record { slot = f.slot; source = f.source; cut = f.cut; reverse = f.reverse; terminal = false; next = f.next; hub_next = f.hub_next; hub_end = f.hub_end; start = f.start; end = f.end })
-    (moved_to f f.next (f.hub_next + m) f.hub_end)
-fewer_none f m e = let a : f.hub_next ≡ f.hub_next + m = omega arith in rw (← a)
-
-pub close_fits : (n : ℕ) → n ≤ 1 → Fits w64 (n + 1)
-close_fits n e = let z : n + 1 < 3 = omega arith in Fits-under w64 (n + 1) 3 z tt
-
 -- ---- the top that is passed over
 
 module _ (s : List ℕ) (h : Header) (b : SearchBudget) (xs : List ℕ) (t : Tally) (d : ℕ) (flag : Bool) (u : Under s h b xs t d flag) where
-  pub under_room : (d - 1 + 1) * frame_width ≤ length xs
-  under_room = let r = u.held.room in let e = u.held.deep in let o = u.some in omega arith
-
   module _ (f : Stored) (ef : f ≡ stored_at xs (d - 1)) where
     under_sound : Sound s h (get_or (path_counts h s) t.families 0) f
     under_sound = rw ef (u.held.sound (d - 1) (let o = u.some in omega arith))
 
-    pub under_lane : f.source < h.lanes
-    under_lane = under_sound.lane
-
     module _ (l : Lane) (some : f.hub_end ≡ 0 → ⊥) (acc : Accepted s h) (st : Stands s h l) (here : l.number ≡ f.source) where
       pub under_behind : behind f.reverse f.next < l.count
       under_behind = let c = count_here s h l f acc st here in let o = under_sound.opened (omega arith) in omega arith
-
-      pub under_second : f.reverse ≡ false → 2 ≤ f.next
-      under_second = under_sound.second (omega arith)
 
       under_flag : flag ≡ false → Flagged (panel_of s) (frame_with (path_at xs (d - 1)) f) false
       unfolding frame_of
@@ -754,10 +688,13 @@ module _ (s : List ℕ) (h : Header) (b : SearchBudget) (family : Family) (start
       → Paused s h b zs xs from (record { halt = Stopped Evaluation; at = record { tally = t; depth = d; start = start; clear = flag } })
   by_evaluation n lw l = stop_here Evaluation refl refl (to_go_evaluation (panel_of s) b t xs d (omega arith) lw l)
 
-  module _ (ys : List ℕ) (u : Tally) (turn : Turn) (n : d ≡ 0 → ⊥) (lw : t.work < b.max_work) (le : t.evaluations < b.max_evaluations) (m : Moved s h family xs ys (d - 1) turn) (eu : u ≡ spent_of t turn.taken)
+  module _ (ys : List ℕ) (turn : Turn) (n : d ≡ 0 → ⊥) (lw : t.work < b.max_work) (le : t.evaluations < b.max_evaluations) (m : Moved s h family xs ys (d - 1) turn)
       (acc : Accepted s h) where
-    then_held : Held s h b family.count ys u d turn.clear
-    then_held = held_then s h b family start xs₀ t₀ d₀ xs t d flag ys u turn g n lw le m eu acc
+    abbrev after : Tally
+    after = spent_of t turn.taken
+
+    then_held : Held s h b family.count ys after d turn.clear
+    then_held = held_then s h b family start xs₀ t₀ d₀ xs t d flag ys turn g n lw le m acc
 
     module _ (c : Stored) (vs : List ℕ) (ea : turn.action ≡ Down c) (ev : vs ≡ put ys d c) (full : b.max_frontier ≤ d) where
       back_one : d - 1 + 1 ≡ d
@@ -772,10 +709,10 @@ module _ (s : List ℕ) (h : Header) (b : SearchBudget) (family : Family) (start
       pending_place : (frame_of vs d).place ≡ place_with (path_to (path_at xs (d - 1)) (stored_at xs (d - 1)) c) c
       pending_place =
           ap (λ (f : Frame). f.place) pending_frame
-          ∙ ap (λ (a : Path). place_with a c) (path_down s h b family start xs₀ t₀ d₀ xs t d flag ys u turn g n lw le m eu acc c ea c (record { slot = refl; source = refl; reverse = refl; start = refl; end = refl }))
+          ∙ ap (λ (a : Path). place_with a c) (path_down s h b family start xs₀ t₀ d₀ xs t d flag ys turn g n lw le m acc c ea c (record { slot = refl; source = refl; reverse = refl; start = refl; end = refl }))
 
       stack_full : stack_of vs d ≡ frame_with (path_at xs (d - 1)) turn.frame ∷ stack_of xs (d - 1)
-      stack_full = ap (λ (l : List ℕ). stack_of l d) ev ∙ stack_above ys d d c (omega arith) ∙ stack_then s h b family start xs₀ t₀ d₀ xs t d flag ys u turn g n lw le m eu acc
+      stack_full = ap (λ (l : List ℕ). stack_of l d) ev ∙ stack_above ys d d c (omega arith) ∙ stack_then s h b family start xs₀ t₀ d₀ xs t d flag ys turn g n lw le m acc
 
       is_full : leb b.max_frontier (suc (length (stack_of xs (d - 1)))) ≡ true
       is_full = rw (length_stack xs (d - 1)) (le-leb b.max_frontier (suc (d - 1)) (omega arith))
@@ -789,29 +726,32 @@ module _ (s : List ℕ) (h : Header) (b : SearchBudget) (family : Family) (start
           words_pending vs d pending_linked (let e = length_put ys d c in rw ev (omega (arith, room_one))) (ap (λ (f : Frame). f.terminal) pending_frame ∙ k.waiting) (ap (λ (f : Frame). f.next) pending_frame ∙ k.no_next)
           (ap (λ (f : Frame). f.hub_next) pending_frame ∙ k.no_hub) (ap (λ (f : Frame). f.hub_end) pending_frame ∙ k.closed)
 
-      pub by_frontier : Paused s h b zs vs from (record { halt = Stopped Frontier; at = record { tally = u; depth = d; start = start; clear = turn.clear } })
+      pub by_frontier : Paused s h b zs vs from (record { halt = Stopped Frontier; at = record { tally = after; depth = d; start = start; clear = turn.clear } })
       by_frontier =
           record {
             outcome =
-                o.total ∙ step s h b family start xs₀ t₀ d₀ xs t d flag ys u turn g n lw le m eu acc
+                o.total ∙ step s h b family start xs₀ t₀ d₀ xs t d flag ys turn g n lw le m acc
                 ∙ (rw (ea, is_full)
                 (run_ended (panel_of s) b (b.max_work - (t.work + 1)) (on_frontier (place_with (path_to (path_at xs (d - 1)) (stored_at xs (d - 1)) c) c)) (spend (walk_of t (stack_of xs d)) turn.taken (frame_with (path_at xs (d - 1)) turn.frame ∷ stack_of xs (d - 1)))
-                ∙ rw (pending_place, stack_full, eu, spend_is t turn.taken (stack_of xs d) (frame_with (path_at xs (d - 1)) turn.frame ∷ stack_of xs (d - 1)))));
+                ∙ rw (pending_place, stack_full, spend_is t turn.taken (stack_of xs d) (frame_with (path_at xs (d - 1)) turn.frame ∷ stack_of xs (d - 1)))));
             kept =
                 rw ev
-                (kept_on o.kept (kept_on (kept_then s h b family start xs₀ t₀ d₀ xs t d flag ys u turn g n lw le m eu acc) (kept_put b ys d c then_held.deep)));
+                (kept_on o.kept (kept_on (kept_then s h b family start xs₀ t₀ d₀ xs t d flag ys turn g n lw le m acc) (kept_put b ys d c then_held.deep)));
             again = λ p z. not_due Frontier p z;
             more = λ p z. not_due Frontier p z;
             words = λ f z. words_stop vs d Frontier f pending-words z;
             deep = then_held.deep;
           }
 
-    module _ (p : Segment) (v : Tally) (ea : turn.action ≡ Give p) (ev : v ≡ handed_of u) where
+    module _ (p : Segment) (ea : turn.action ≡ Give p) where
+      abbrev v : Tally
+      v = handed_of after
+
       handed_is : (st : List Frame) (a : Assignment) → handed (spend (walk_of t (stack_of xs d)) turn.taken st) a ≡ handing a (walk_of (handed_of (spent_of t turn.taken)) st)
       handed_is st a = simp add-one
 
       due_families : v.families ≡ t.families
-      due_families = rw (ev, eu)
+      due_families = refl
 
       due_held : Held s h b (get_or (path_counts h s) v.families 0) ys v d turn.clear
       due_held =
@@ -826,29 +766,29 @@ module _ (s : List ℕ) (h : Header) (b : SearchBudget) (family : Family) (start
             settled = k.settled;
             flagged = k.flagged;
             linked = k.linked;
-            worked = rw ev k.worked;
-            taken = rw ev k.taken;
+            worked = k.worked;
+            taken = k.taken;
           }
 
       pub by_due : Paused s h b zs ys from (record { halt = Due p; at = record { tally = v; depth = d; start = start; clear = turn.clear } })
       by_due =
           record {
             outcome =
-                o.total ∙ step s h b family start xs₀ t₀ d₀ xs t d flag ys u turn g n lw le m eu acc
+                o.total ∙ step s h b family start xs₀ t₀ d₀ xs t d flag ys turn g n lw le m acc
                 ∙ (rw ea
                 (ap (λ (w : Walk). run (panel_of s) b (b.max_work - (t.work + 1)) (going w)) (handed_is (frame_with (path_at xs (d - 1)) turn.frame ∷ stack_of xs (d - 1)) (record { family = t.families; routes = (longer false (path_at xs (d - 1)) p).routes }))
                 ∙ run_after (panel_of s) b (record { family = t.families; routes = (longer false (path_at xs (d - 1)) p).routes }) (b.max_work - (t.work + 1)) (walk_of (handed_of (spent_of t turn.taken)) (frame_with (path_at xs (d - 1)) turn.frame ∷ stack_of xs (d - 1)))
                 ∙ rw
-                (to_go_some (panel_of s) b v ys d (omega arith), stack_then s h b family start xs₀ t₀ d₀ xs t d flag ys u turn g n lw le m eu acc, top_path s h b family start xs₀ t₀ d₀ xs t d flag ys u turn g n lw le m eu acc, ev, eu)));
-            kept = kept_on o.kept (kept_then s h b family start xs₀ t₀ d₀ xs t d flag ys u turn g n lw le m eu acc);
+                (to_go_some (panel_of s) b v ys d (omega arith), stack_then s h b family start xs₀ t₀ d₀ xs t d flag ys turn g n lw le m acc, top_path s h b family start xs₀ t₀ d₀ xs t d flag ys turn g n lw le m acc)));
+            kept = kept_on o.kept (kept_then s h b family start xs₀ t₀ d₀ xs t d flag ys turn g n lw le m acc);
             again = λ q z.
                 record {
                   held = due_held;
                   some = omega arith;
                   left = (let a = g.groups.family in let c = due_families in let e = g.same in omega arith);
-                  begins = rw due_families g.begins;
+                  begins = g.begins;
                 };
-            more = λ q z. (let a = o.more in let c = g.more in rw (ev, eu) (omega arith));
+            more = λ q z. (let a = o.more in let c = g.more in omega arith);
             words = λ f z. (let y : ◌≡◌ {A = ℕ} 0 1 = cc in absurd (omega arith));
             deep = then_held.deep;
           }
@@ -859,7 +799,7 @@ families_are : (s : List ℕ) (h : Header) → Accepted s h → length (panel_of
 families_are s h acc = ap length (panel_families s h acc.counted.framed) ∙ families_length s h
 
 module _ (s : List ℕ) (h : Header) (family : Family) (acc : Accepted s h) (gs : Groups s h family) where
-  pub root_lane : (lane : ℕ) → lane ≡ get_or (paths_of h s family.number) 0 0 → lane < h.lanes
+  root_lane : (lane : ℕ) → lane ≡ get_or (paths_of h s family.number) 0 0 → lane < h.lanes
   root_lane lane e = path_named s h family 0 lane acc gs (path_some s h family acc gs) e
 
   root_child : Child s h family.count (child_of 0 (record { source = get_or (paths_at (panel_of s) family.number) 0 0; cut = 0; reverse = false }) no_segment)
@@ -873,9 +813,13 @@ module _ (s : List ℕ) (h : Header) (family : Family) (acc : Accepted s h) (gs 
         closed = refl;
       }
 
-  pub root_told : (lane : ℕ) (f : Stored) (xs ys : List ℕ) (n : ℕ) → family.number ≡ n → lane ≡ get_or (paths_of h s family.number) 0 0
-      → f ≡ entered (panel_of s) (record { slot = 0; source = lane; cut = 0; reverse = false; terminal = true; next = 0; hub_next = 0; hub_end = 0; start = 0; end = 0 }) → ys ≡ put xs 0 f → ys ≡ put xs 0 (root_of (panel_of s) n)
-  root_told lane f xs ys n en el ef ey = ey ∙ rw (ef, el, ← en, paths_are s h family.number acc.counted.framed)
+  pub root_made : (lane : ℕ) → lane ≡ get_or (paths_of h s family.number) 0 0
+      → ◌≡◌ {A = Stored} (record { slot = 0; source = lane; cut = 0; reverse = false; terminal = true; next = 0; hub_next = 0; hub_end = 0; start = 0; end = 0 })
+      (child_of 0 (record { source = get_or (paths_at (panel_of s) family.number) 0 0; cut = 0; reverse = false }) no_segment)
+  root_made lane e = rw (e, paths_are s h family.number acc.counted.framed)
+
+  pub root_waits : (f : Stored) → f ≡ child_of 0 (record { source = get_or (paths_at (panel_of s) family.number) 0 0; cut = 0; reverse = false }) no_segment → Child s h family.count f
+  root_waits f e = rw e root_child
 
 -- a family begun: its root alone is on the stack
 module _ (s : List ℕ) (h : Header) (b : SearchBudget) (xs : List ℕ) (t : Tally) (start : ℕ) (acc : Accepted s h) (lt : t.families < h.families) (begins : start ≡ sum (take t.families (path_counts h s)))
@@ -1000,24 +944,6 @@ module _ (s : List ℕ) (h : Header) (b : SearchBudget) (family : Family) (start
           more = (let a = o.more in let c = g.more in rw ev (omega arith));
         }
 
--- ---- what the calls ask
-
-module _ (s : List ℕ) (h : Header) (b : SearchBudget) (family : Family) (start : ℕ) (xs₀ : List ℕ) (t₀ : Tally) (d₀ : ℕ) (xs : List ℕ) (t : Tally) (d : ℕ) (flag : Bool) (g : Going s h b family start xs₀ t₀ d₀ xs t d flag) where
-  pub frontier_room : (ys : List ℕ) → length ys ≡ length xs → (d + 1) * frame_width ≤ length ys
-  frontier_room ys e = let r = g.held.room in let o = g.held.deep in omega arith
-
-  pub families_few : Accepted s h → t.families < 4096
-  families_few acc = let e = g.same in let l = g.groups.family in omega (arith, acc.counted.framed.few_families)
-
-  pub root_room : frame_width ≤ length xs
-  root_room = let r = g.held.room in omega arith
-
-  pub less_families : (v : Tally) → v ≡ done_of t → family.number ≡ t₀.families → h.families - v.families < h.families - t₀.families
-  less_families v ev e = let q = g.same in let l = g.groups.family in rw ev (omega arith)
-
-pub evaluations_left : (b : SearchBudget) (t u : Tally) (k : ℕ) → u ≡ spent_of t k → t.evaluations < b.max_evaluations → u.evaluations < b.max_evaluations
-evaluations_left b t u k e l = rw e l
-
 -- ---- what a stopped walk leaves in the frame room
 
 pub used_few : (e : Stop) (d n : ℕ) → d ≤ n → used_by e d ≤ n + 1
@@ -1025,9 +951,6 @@ used_few Exhausted d n h = omega arith
 used_few Work d n h = omega arith
 used_few Evaluation d n h = omega arith
 used_few Frontier d n h = omega arith
-
-pub used_frontier : (e : Stop) (d : ℕ) → e ≡ Frontier → d + 1 ≡ used_by e d
-used_frontier e d q = rw q
 
 module _ (b : SearchBudget) (xs ys zs : List ℕ) (e : Stop) (d : ℕ) where
   pub frames-left : Kept b xs ys → take (used_by e d * frame_width) ys ≡ stack_words (stack_of ys d) ++ pending_words (ending_of e (frame_of ys d).place) → d ≤ b.max_frontier

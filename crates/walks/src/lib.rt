@@ -1,26 +1,26 @@
 // The budgeted walk over all families (search.rs, search): it goes on until a budget stops it, all is walked, or an evaluation is due.
 #![tactic(auto)]
 
-ghost use Rattle.std.specs.Prelude.{◌≡◌, true, false, ◌+◌, ◌-◌, ◌*◌, ◌≤◌, ◌<◌, min, ltb, length, take};
+ghost use Rattle.std.specs.Prelude.{◌≡◌, true, false, ◌+◌, ◌-◌, ◌*◌, ◌≤◌, ◌<◌, ltb, length, take, get_or};
 ghost use Rattle.ground.specs.Lists.{pick, sum};
 ghost use Rattle.image.specs.Image.{path_counts};
-ghost use Rattle.image.specs.Inner.{Started, Stands};
-ghost use Rattle.image.specs.Panel.{panel_of};
+ghost use Rattle.image.specs.Inner.{Started, Stands, Groups};
+ghost use Rattle.image.specs.Panel.{panel_of, paths_at};
 ghost use Rattle.panel.specs.Inner.{Accepted};
 ghost use Rattle.search.specs.Rooms.{frame_width};
 ghost use Rattle.search.specs.Counters.{status_of, status_number};
-ghost use Rattle.frames.specs.Inner.{put};
+ghost use Rattle.frames.specs.Inner.{put, no_segment};
 ghost use Rattle.landings.specs.Inner.{Known};
-ghost use Rattle.advance.specs.Inner.{moved_to};
-ghost use Rattle.walks.specs.Inner.{root_of, spent_of, took_of, worked_of, handed_of, done_of, Walking, Paused, Further, Under, Stuck, Passed, pending_at, used_by, zeroed};
+ghost use Rattle.advance.specs.Inner.{moved_to, child_of, Child};
+ghost use Rattle.walks.specs.Inner.{root_of, Walking, Paused, Further, Under, Stuck, Passed, pending_at, used_by, zeroed};
 
 use advance::Action;
 use evaluate::Segment;
 use frames::Stored;
-use search::{SearchBudget, Stop, Tally};
+use search::{SearchBudget, Status, Stop, Tally};
 
 // Where a walk stands: its counters, its frames, where its family's paths begin, and whether the piece to the top's open hub is clear.
-#[derive(Clone, Copy)]
+#[derive(Clone, Copy, PartialEq, Eq, Debug)]
 pub struct Standing {
     pub tally: Tally,
     pub depth: usize,
@@ -41,7 +41,28 @@ pub struct Pause {
     pub at: Standing,
 }
 
-// The root of a family, entered.
+// The root of a family: slot 0, its first path, cut 0, forward.
+pub fn root(image: &[u8], h: image::Header, family: image::Family) -> Stored
+    requires { Accepted image.now h × Groups image.now h family }
+    ensures child { Child image.now h family.count result }
+    ensures is { result ≡ child_of 0 (record { source = get_or (paths_at (panel_of image.now) family.number) 0 0; cut = 0; reverse = false }) no_segment }
+{
+    let lane = image::family_path(image, h, family, 0);
+    Stored {
+        slot: 0,
+        source: lane as u64,
+        cut: 0,
+        reverse: false,
+        terminal: true,
+        next: 0,
+        hub_next: 0,
+        hub_end: 0,
+        start: 0,
+        end: 0,
+    }
+}
+
+// It is entered, and put at the bottom of the stack.
 pub fn put_root(
     image: &[u8],
     h: image::Header,
@@ -54,92 +75,17 @@ pub fn put_root(
     ensures { frames.new ≡ put frames.old 0 (root_of (panel_of image.now) number) }
 {
     let family = image::family_from(image, h, number, start);
-    let lane = image::family_path(image, h, family, 0);
-    let f = advance::enter(
-        image,
-        h,
-        starts,
-        Stored {
-            slot: 0,
-            source: lane as u64,
-            cut: 0,
-            reverse: false,
-            terminal: true,
-            next: 0,
-            hub_next: 0,
-            hub_end: 0,
-            start: 0,
-            end: 0,
-        },
-    );
+    let f = advance::enter(image, h, starts, root(image, h, family));
     frames::put_frame(frames, 0, f);
 }
 
-// One unit more, and the members it took.
-fn spent(b: SearchBudget, t: Tally, taken: u64) -> Tally
-    requires { (t.work < b.max_work) × (t.donors ≤ t.work) × (taken ≤ 1) }
-    ensures { result ≡ spent_of t taken }
-{
-    Tally {
-        work: t.work + 1,
-        donors: t.donors + taken,
-        ..t
-    }
-}
-
-fn smaller(x: u64, y: u64) -> u64
-    ensures { result ≡ min x y }
-{
-    if x < y { x } else { y }
-}
-
-// So many members of the open hub are taken.
-fn took(t: Tally, m: u64) -> Tally
-    requires { (t.work + m < 0x1_0000_0000_0000_0000) × (t.donors ≤ t.work) }
-    ensures { result ≡ took_of t m }
-{
-    Tally {
-        work: t.work + m,
-        donors: t.donors + m,
-        ..t
-    }
-}
-
-// So many units more, that took none.
-fn worked(t: Tally, n: u64) -> Tally
-    requires { t.work + n < 0x1_0000_0000_0000_0000 }
-    ensures { result ≡ worked_of t n }
-{
-    Tally {
-        work: t.work + n,
-        ..t
-    }
-}
-
 // ---- ports passed over
-
-// The members that the open hub has left.
-fn members_left(f: Stored) -> u64
-    ensures { result ≡ f.hub_end - f.hub_next }
-{
-    if f.hub_next < f.hub_end {
-        f.hub_end - f.hub_next
-    } else {
-        0
-    }
-}
 
 // The open hub with m members fewer.
 fn with_fewer(f: Stored, m: u64) -> Stored
     requires { m ≤ f.hub_end - f.hub_next }
     ensures { result ≡ moved_to f f.next (f.hub_next + m) f.hub_end }
 {
-    if m == 0 {
-        return Stored {
-            terminal: false,
-            ..f
-        };
-    }
     Stored {
         terminal: false,
         hub_next: f.hub_next + m,
@@ -151,7 +97,7 @@ fn with_fewer(f: Stored, m: u64) -> Stored
 fn to_close(f: Stored) -> u64
     ensures { (result ≡ pick (ltb 0 f.hub_end) 1 0) × (result ≤ 1) }
 {
-    if 0 < f.hub_end { 1 } else { 0 }
+    u64::from(0 < f.hub_end)
 }
 
 // Whether a port is left, and work for it.
@@ -159,13 +105,7 @@ fn goes_past(b: SearchBudget, l: image::Lane, f: Stored, t: Tally) -> bool
     requires { t.work < b.max_work }
     ensures { result ≡ true → Further b l f t }
 {
-    if b.max_work - t.work < 3 {
-        return false;
-    }
-    if f.next == 0 {
-        return false;
-    }
-    f.next as usize <= l.count
+    3 <= b.max_work - t.work && 0 < f.next && f.next as usize <= l.count
 }
 
 // The frame on top, whose ports ahead are all blocked, past members and ports as far as work leads; one unit is left.
@@ -187,16 +127,17 @@ fn pass_ports(
     let mut f = first;
     let mut t = from;
     loop {
-        let m = smaller(members_left(f), b.max_work - t.work - 1);
+        let members = f.hub_end.saturating_sub(f.hub_next);
+        let m = members.min(b.max_work - t.work - 1);
         f = with_fewer(f, m);
-        t = took(t, m);
-        if goes_past(b, l, f, t) {
-            let n = to_close(f);
-            f = advance::past_next(image, h, memo, l, f);
-            t = worked(t, n + 1);
-        } else {
+        t.work += m;
+        t.donors += m;
+        if !goes_past(b, l, f, t) {
             break;
         }
+        let n = to_close(f);
+        f = advance::past_next(image, h, memo, l, f);
+        t.work += n + 1;
     }
     frames::put_frame(frames, depth - 1, f);
     t
@@ -222,10 +163,7 @@ fn pass_over(
         return t;
     }
     let f = frames::frame_at(frames, depth - 1);
-    if f.terminal {
-        return t;
-    }
-    if f.hub_end == 0 {
+    if f.terminal || f.hub_end == 0 {
         return t;
     }
     let l = image::lane_of(image, h, starts, f.source as usize);
@@ -233,28 +171,6 @@ fn pass_over(
         pass_ports(image, h, memo, b, frames, depth, l, f, t)
     } else {
         t
-    }
-}
-
-// One evaluation more.
-fn handed(b: SearchBudget, t: Tally) -> Tally
-    requires { t.evaluations < b.max_evaluations }
-    ensures { result ≡ handed_of t }
-{
-    Tally {
-        evaluations: t.evaluations + 1,
-        ..t
-    }
-}
-
-// One family more.
-fn done_with(t: Tally) -> Tally
-    requires { t.families < 4096 }
-    ensures { result ≡ done_of t }
-{
-    Tally {
-        families: t.families + 1,
-        ..t
     }
 }
 
@@ -278,10 +194,7 @@ pub fn go_on(
     let mut clear = from.clear;
     let halt = 'families: loop {
         let family = image::family_from(image, h, t.families as usize, start);
-        loop {
-            if depth == 0 {
-                break;
-            }
+        while depth != 0 {
             if t.work >= b.max_work {
                 break 'families Halt::Stopped(Stop::Work);
             }
@@ -290,13 +203,11 @@ pub fn go_on(
             }
             t = pass_over(image, h, starts, memo, b, frames, depth, clear, t);
             let turn = advance::advance(image, h, starts, memo, family, frames, depth - 1, clear);
-            t = spent(b, t, turn.taken);
+            t.work += 1;
+            t.donors += turn.taken;
             clear = turn.clear;
-            let action = turn.action;
-            match action {
-                Action::Leave => {
-                    depth -= 1;
-                }
+            match turn.action {
+                Action::Leave => depth -= 1,
                 Action::Pass => {}
                 Action::Down(f) => {
                     if depth as u64 >= b.max_frontier {
@@ -308,13 +219,13 @@ pub fn go_on(
                     depth += 1;
                 }
                 Action::Give(s) => {
-                    t = handed(b, t);
+                    t.evaluations += 1;
                     break 'families Halt::Due(s);
                 }
             }
         }
         start = image::family_end(image, h, family);
-        t = done_with(t);
+        t.families += 1;
         if t.families as usize >= h.families {
             break 'families Halt::Stopped(Stop::Exhausted);
         }
@@ -339,23 +250,26 @@ pub fn go_on(
 pub fn is_pending(s: Stop) -> bool
     ensures { result ≡ pending_at s }
 {
+    matches!(s, Stop::Frontier)
+}
+
+// The status: exhausted with or without an assignment discarded, or the budget that stopped the walk.
+pub fn status_of(s: Stop, discarded: bool) -> Status
+    ensures { result ≡ status_of s discarded }
+{
     match s {
-        Stop::Exhausted => false,
-        Stop::Work => false,
-        Stop::Evaluation => false,
-        Stop::Frontier => true,
+        Stop::Exhausted if discarded => Status::SupportIncomplete,
+        Stop::Exhausted => Status::Certified,
+        Stop::Work => Status::WorkExhausted,
+        Stop::Evaluation => Status::EvaluationExhausted,
+        Stop::Frontier => Status::FrontierExhausted,
     }
 }
 
 pub fn status_number(s: Stop, discarded: bool) -> u64
     ensures { result ≡ status_number (status_of s discarded) }
 {
-    match s {
-        Stop::Exhausted => { if discarded { 2 } else { 1 } }
-        Stop::Work => 3,
-        Stop::Evaluation => 4,
-        Stop::Frontier => 5,
-    }
+    status_of(s, discarded).number()
 }
 
 fn frames_used(s: Stop, depth: usize) -> usize
@@ -363,9 +277,7 @@ fn frames_used(s: Stop, depth: usize) -> usize
     ensures { (result ≡ used_by s depth) × (result ≤ depth + 1) }
 {
     match s {
-        Stop::Exhausted => depth,
-        Stop::Work => depth,
-        Stop::Evaluation => depth,
+        Stop::Exhausted | Stop::Work | Stop::Evaluation => depth,
         Stop::Frontier => depth + 1,
     }
 }

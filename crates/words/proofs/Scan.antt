@@ -61,14 +61,14 @@ segments_short n left (a ∷ b ∷ []) h = refl
 segments_short n left (a ∷ b ∷ c ∷ []) h = refl
 segments_short n left (a ∷ b ∷ c ∷ d ∷ ws) h = let z : ⊥ = omega arith in absurd z
 
--- ---- over the words from `at` on
-pub record Routing (ws : List ℕ) (left at : ℕ) : Type 0 where
+-- ---- over the words from `at` on: i routes of `routes` have passed, and j segments of the next one
+pub record Routing (ws : List ℕ) (routes i at : ℕ) : Type 0 where
   pub inside : at ≤ length ws
-  pub rest : ok_routes left (drop at ws) ≡ formed (decode ws)
+  pub rest : ok_routes (routes - i) (drop at ws) ≡ formed (decode ws)
 
-pub record Segmenting (ws : List ℕ) (left segments at : ℕ) : Type 0 where
+pub record Segmenting (ws : List ℕ) (routes i segments j at : ℕ) : Type 0 where
   pub inside : at ≤ length ws
-  pub rest : ok_segments segments (left - 1) (drop at ws) ≡ formed (decode ws)
+  pub rest : ok_segments (segments - j) (routes - (i + 1)) (drop at ws) ≡ formed (decode ws)
 
 pub short : (ws : List ℕ) → length ws < 2 → false ≡ formed (decode ws)
 unfolding decode read_assignment
@@ -79,9 +79,9 @@ short ws h = go ws h
     go (a ∷ []) h = refl
     go (a ∷ b ∷ ws) h = let z : ⊥ = omega arith in absurd z
 
-pub routing_start : {ws : List ℕ} → 2 ≤ length ws → Routing ws (get_or ws 1 0) 2
+pub routing_start : {ws : List ℕ} → 2 ≤ length ws → Routing ws (get_or ws 1 0) 0 2
 unfolding decode ok_routes read_assignment read_routes
-routing_start {ws} h = record { inside = h; rest = go ws h }
+routing_start {ws} h = record { inside = h; rest = let e : get_or ws 1 0 - 0 ≡ get_or ws 1 0 = omega arith in rw e (go ws h) }
   where
     go : (ws : List ℕ) → 2 ≤ length ws → formed (all_of (read_routes (get_or ws 1 0) (drop 2 ws))) ≡ formed (all_of (read_assignment ws))
     go [] h = let z : ⊥ = omega arith in absurd z
@@ -100,47 +100,54 @@ four ws at h = rw (add-one, add-two, add-three, add-four) (drop-cons ws at 0 (om
     (drop-cons ws (suc at) 0 (omega arith) ∙ ap (λ (t : List ℕ). get_or ws (suc at) 0 ∷ t)
     (drop-cons ws (suc (suc at)) 0 (omega arith) ∙ ap (λ (t : List ℕ). get_or ws (suc (suc at)) 0 ∷ t) (drop-cons ws (suc (suc (suc at))) 0 (omega arith)))))
 
-module _ {ws : List ℕ} {left at : ℕ} where
-  pub routing_short : Routing ws left at → 0 < left → length ws ≤ at → false ≡ formed (decode ws)
+module _ {ws : List ℕ} {routes i at : ℕ} (p : Routing ws routes i at) where
+  pub routing_short : i < routes → length ws ≤ at → false ≡ formed (decode ws)
   unfolding ok_routes read_routes
-  routing_short p l h =
+  routing_short l h =
       let d : drop at ws ≡ [] = drop_of_length-le ws {i = at} h in
-      let e : left ≡ suc (left - 1) = omega arith in
+      let e : routes - i ≡ suc (routes - (i + 1)) = omega arith in
       rw (d, e) at p.rest
 
-  pub routing_next : Routing ws left at → 0 < left → at < length ws → Segmenting ws left (get_or ws at 0) (at + 1)
+  pub routing_next : i < routes → at < length ws → Segmenting ws routes i (get_or ws at 0) 0 (at + 1)
   unfolding ok_routes ok_segments read_routes
-  routing_next p l h =
-      let e : left ≡ suc (left - 1) = omega arith in
-      let f : ok_routes left (drop at ws) ≡ ok_segments (get_or ws at 0) (left - 1) (drop (at + 1) ws) = ap₂ ok_routes e (drop-cons ws at 0 h) ∙ rw add-one in
-      record { inside = omega arith; rest = sym f ∙ p.rest }
+  routing_next l h =
+      let e : routes - i ≡ suc (routes - (i + 1)) = omega arith in
+      let z : get_or ws at 0 - 0 ≡ get_or ws at 0 = omega arith in
+      let f : ok_routes (routes - i) (drop at ws) ≡ ok_segments (get_or ws at 0) (routes - (i + 1)) (drop (at + 1) ws) = ap₂ ok_routes e (drop-cons ws at 0 h) ∙ simp add-one in
+      record { inside = omega arith; rest = rw z (sym f ∙ p.rest) }
 
-  pub routing_end : Routing ws left at → left ≤ 0 → eqb at (length ws) ≡ formed (decode ws)
+  pub routing_end : routes ≤ i → eqb at (length ws) ≡ formed (decode ws)
   unfolding ok_routes read_routes
-  routing_end p h =
-      let e : left ≡ 0 = omega arith in
+  routing_end h =
+      let e : routes - i ≡ 0 = omega arith in
       sym (ap (λ (n : ℕ). ok_routes n (drop at ws)) e ∙ ends ws at p.inside) ∙ p.rest
 
-module _ {ws : List ℕ} {left segments at : ℕ} where
-  pub segments_end : Segmenting ws left segments at → segments ≤ 0 → Routing ws (left - 1) at
-  segments_end p h =
-      let e : segments ≡ 0 = omega arith in
-      record { inside = p.inside; rest = sym (ap (λ (n : ℕ). ok_segments n (left - 1) (drop at ws)) e ∙ segments_none (left - 1) (drop at ws)) ∙ p.rest }
+module _ {ws : List ℕ} {routes i segments j at : ℕ} (p : Segmenting ws routes i segments j at) where
+  pub segments_end : segments ≤ j → Routing ws routes (i + 1) at
+  segments_end h =
+      let e : segments - j ≡ 0 = omega arith in
+      record { inside = p.inside; rest = sym (ap (λ (n : ℕ). ok_segments n (routes - (i + 1)) (drop at ws)) e ∙ segments_none (routes - (i + 1)) (drop at ws)) ∙ p.rest }
 
-  pub segments_few : Segmenting ws left segments at → 0 < segments → length ws - at < 4 → false ≡ formed (decode ws)
-  segments_few p l h =
-      let e : segments ≡ suc (segments - 1) = omega arith in
-      sym (ap (λ (n : ℕ). ok_segments n (left - 1) (drop at ws)) e ∙ segments_short (segments - 1) (left - 1) (drop at ws) (rw length-drop h)) ∙ p.rest
+  module _ (l : j < segments) where
+    more : segments - j ≡ suc (segments - (j + 1))
+    more = omega arith
 
-  pub segments_bad : Segmenting ws left segments at → 0 < segments → 4 ≤ length ws - at → 1 < get_or ws (at + 3) 0 → false ≡ formed (decode ws)
-  segments_bad p l h d =
-      let e : segments ≡ suc (segments - 1) = omega arith in
-      sym (ap₂ (λ (n : ℕ) (t : List ℕ). ok_segments n (left - 1) t) e (four ws at (omega arith)) ∙ segments_turn (segments - 1) (left - 1) _ _ _ (get_or ws (at + 3) 0) (drop (at + 4) ws) d) ∙ p.rest
+    pub segments_few : length ws - at < 4 → false ≡ formed (decode ws)
+    segments_few h =
+        sym (ap (λ (n : ℕ). ok_segments n (routes - (i + 1)) (drop at ws)) more ∙ segments_short (segments - (j + 1)) (routes - (i + 1)) (drop at ws) (rw length-drop h)) ∙ p.rest
 
-  pub segments_more : Segmenting ws left segments at → 0 < segments → 4 ≤ length ws - at → get_or ws (at + 3) 0 ≤ 1 → Segmenting ws left (segments - 1) (at + 4)
-  segments_more p l h d =
-      let e : segments ≡ suc (segments - 1) = omega arith in
-      record {
-        inside = omega arith;
-        rest = sym (ap₂ (λ (n : ℕ) (t : List ℕ). ok_segments n (left - 1) t) e (four ws at (omega arith)) ∙ segments_next (segments - 1) (left - 1) _ _ _ (get_or ws (at + 3) 0) (drop (at + 4) ws) d) ∙ p.rest;
-      }
+    module _ (h : 4 ≤ length ws - at) where
+      stands : ok_segments (segments - j) (routes - (i + 1)) (drop at ws) ≡ ok_segments (suc (segments - (j + 1))) (routes - (i + 1)) (get_or ws at 0 ∷ get_or ws (at + 1) 0 ∷ get_or ws (at + 2) 0 ∷ get_or ws (at + 3) 0 ∷ drop (at + 4) ws)
+      stands = ap₂ (λ (n : ℕ) (t : List ℕ). ok_segments n (routes - (i + 1)) t) more (four ws at (omega arith))
+
+      pub segments_bad : 1 < get_or ws (at + 3) 0 → false ≡ formed (decode ws)
+      segments_bad d = sym (stands ∙ segments_turn (segments - (j + 1)) (routes - (i + 1)) _ _ _ (get_or ws (at + 3) 0) (drop (at + 4) ws) d) ∙ p.rest
+
+      pub segments_more : get_or ws (at + 3) 0 ≤ 1 → Segmenting ws routes i segments (j + 1) (at + 4)
+      segments_more d =
+          record {
+            inside = omega arith;
+            rest = sym (stands ∙ segments_next (segments - (j + 1)) (routes - (i + 1)) _ _ _ (get_or ws (at + 3) 0) (drop (at + 4) ws) d) ∙ p.rest;
+          }
+
+pub ruleset scanning = (short, routing_start, routing_short, routing_next, routing_end, segments_end, segments_few, segments_bad, segments_more)

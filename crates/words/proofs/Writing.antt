@@ -91,52 +91,58 @@ unfolding routes_of
 routes_length zero ws = refl
 routes_length (suc n) ws = ap suc (routes_length n _)
 
--- of N routes some have been put, and n are left
-pub record Encoding (ws : List ℕ) (N : ℕ) (xs ys : List ℕ) (to at n : ℕ) : Type 0 where
-  pub parsed : Parsed ws n at
+-- i of N routes have been put
+pub record Encoding (ws : List ℕ) (N : ℕ) (xs ys : List ℕ) (to at i : ℕ) : Type 0 where
+  pub parsed : Parsed ws (N - i) at
   pub far : to ≤ at
   pub long : length ys ≡ length xs
-  pub rest : sets ys to (normal_routes ws n at) ≡ sets xs 2 (normal_routes ws N 2)
-  pub after : to + length (normal_routes ws n at) ≡ 2 + length (normal_routes ws N 2)
+  pub rest : sets ys to (normal_routes ws (N - i) at) ≡ sets xs 2 (normal_routes ws N 2)
+  pub after : to + length (normal_routes ws (N - i) at) ≡ 2 + length (normal_routes ws N 2)
 
-pub encoding_start : {ws xs : List ℕ} {N : ℕ} → Parsed ws N 2 → Encoding ws N xs xs 2 2 N
-encoding_start p = record { parsed = p; far = omega arith; long = refl; rest = refl; after = refl }
+pub encoding_start : {ws xs : List ℕ} {N : ℕ} → Parsed ws N 2 → Encoding ws N xs xs 2 2 0
+encoding_start {ws} {xs} {N} p =
+    let z : N - 0 ≡ N = omega arith in
+    record { parsed = rw z p; far = omega arith; long = refl; rest = rw z; after = rw z }
 
-pub encoding_route : {ws xs ys : List ℕ} {N to at n : ℕ} → Encoding ws N xs ys to at n → 0 < n → at + 1 + 4 * get_or ws at 0 ≤ length ws
-encoding_route p h = parsed_route p.parsed h
+pub encoding_route : {ws xs ys : List ℕ} {N to at i : ℕ} → Encoding ws N xs ys to at i → i < N → at + 1 + 4 * get_or ws at 0 ≤ length ws
+encoding_route p h = parsed_route p.parsed (omega arith)
 
-module _ {ws xs ys : List ℕ} {N to at n : ℕ} (p : Encoding ws N xs ys to at n) (k : ℕ) (pos : 0 < n) (e : k ≡ get_or ws at 0) where
-  here : normal_routes ws n at ≡ route_head (normal_of ws (at + 1) k) ++ normal_routes ws (n - 1) (at + 1 + 4 * k)
+module _ {ws xs ys : List ℕ} {N to at i : ℕ} (p : Encoding ws N xs ys to at i) (k : ℕ) (more : i < N) (e : k ≡ get_or ws at 0) where
+  one : N - i - 1 ≡ N - (i + 1)
+  one = omega arith
+
+  here : normal_routes ws (N - i) at ≡ route_head (normal_of ws (at + 1) k) ++ normal_routes ws (N - (i + 1)) (at + 1 + 4 * k)
   unfolding normal_routes normal_of
-  here = rw (routes_next ws at n k pos e)
+  here = rw (routes_next ws at (N - i) k (omega arith) e, one)
 
-  pub encoding_more : {zs : List ℕ} {next : ℕ} → RoutePut ws to (at + 1) k ys zs next → Encoding ws N xs zs next (at + 1 + 4 * k) (n - 1)
+  pub encoding_more : {zs : List ℕ} {next : ℕ} → RoutePut ws to (at + 1) k ys zs next → Encoding ws N xs zs next (at + (1 + 4 * k)) (i + 1)
   encoding_more {zs} {next} r =
+      let n = N - (i + 1) in
+      let y : at + (1 + 4 * k) ≡ at + 1 + 4 * k = omega arith in
       let l = segment_words_length (normal_of ws (at + 1) k) in
       let q : to + length (route_head (normal_of ws (at + 1) k)) ≡ next = rw r.after (omega arith) in
-      let a = length-append (route_head (normal_of ws (at + 1) k)) (normal_routes ws (n - 1) (at + 1 + 4 * k)) in
-      let b : length (normal_routes ws n at) ≡ length (route_head (normal_of ws (at + 1) k) ++ normal_routes ws (n - 1) (at + 1 + 4 * k)) = ap length here in
-      let sum : to + length (route_head (normal_of ws (at + 1) k)) + length (normal_routes ws (n - 1) (at + 1 + 4 * k)) ≡ to + length (normal_routes ws n at) = omega arith in
-      record {
-        parsed = parsed_next p.parsed pos e;
+      let a = length-append (route_head (normal_of ws (at + 1) k)) (normal_routes ws n (at + 1 + 4 * k)) in
+      let b : length (normal_routes ws (N - i) at) ≡ length (route_head (normal_of ws (at + 1) k) ++ normal_routes ws n (at + 1 + 4 * k)) = ap length here in
+      let sum : to + length (route_head (normal_of ws (at + 1) k)) + length (normal_routes ws n (at + 1 + 4 * k)) ≡ to + length (normal_routes ws (N - i) at) = omega arith in
+      rw y (record {
+        parsed = rw (← one) (parsed_next p.parsed (omega arith) e);
         far = omega (arith, r.few);
         long = rw (r.words, length-sets ys to (route_head (normal_of ws (at + 1) k))) p.long;
-        rest = rw (r.words, ← q, ← sets_append (route_head (normal_of ws (at + 1) k)) (normal_routes ws (n - 1) (at + 1 + 4 * k)) ys to, ← here) p.rest;
+        rest = rw (r.words, ← q, ← sets_append (route_head (normal_of ws (at + 1) k)) (normal_routes ws n (at + 1 + 4 * k)) ys to, ← here) p.rest;
         after = rw (← q) (sum ∙ p.after);
-      }
+      })
 
 nothing_left : (ws : List ℕ) (n at : ℕ) → n ≤ 0 → normal_routes ws n at ≡ []
 unfolding normal_routes
 nothing_left ws n at z = rw (routes_none (drop at ws) n z)
 
-pub encoding_done : {ws xs ys : List ℕ} {N to at n : ℕ} → Encoding ws N xs ys to at n → n ≤ 0 → RoutesPut ws N xs ys to
-encoding_done {ws} {xs} {ys} {N} {to} {at} {n} p z =
-    let e : normal_routes ws n at ≡ [] = none in
+pub encoding_done : {ws xs ys : List ℕ} {N to at i : ℕ} → Encoding ws N xs ys to at i → N ≤ i → RoutesPut ws N xs ys to
+encoding_done {ws} {xs} {ys} {N} {to} {at} {i} p z =
+    let e : normal_routes ws (N - i) at ≡ [] = nothing_left ws (N - i) at (omega arith) in
     let l : to + 0 ≡ 2 + length (normal_routes ws N 2) = rw e at p.after in
     record { words = rw e at p.rest; after = omega arith; few = omega (arith, p.far, p.parsed.inside) }
-  where
-    none : normal_routes ws n at ≡ []
-    none = nothing_left ws n at z
+
+pub ruleset encoding = (encoding_start, encoding_route, encoding_more, encoding_done)
 
 pub normal_put : {ws xs ys : List ℕ} {r : ℕ} → RoutesPut ws (get_or ws 1 0) (set (set xs 0 (get_or ws 0 0)) 1 (get_or ws 1 0)) ys r → NormalPut ws xs ys r
 unfolding normal_routes encode

@@ -2,8 +2,6 @@
 use Rattle.std.specs.Prelude.{ℕ, zero, suc, ◌+◌, ◌*◌, ◌≤◌, ◌<◌, ◌≡◌, Bool, true, false, List, [], ◌∷◌, map, eqb, length, drop, get_or}
 use Rattle.std.proofs.lemmas.List.Edits.{sets}
 use Rattle.ground.specs.Lists.{each}
-use Rattle.graph.specs.declared.Found.{Found}
-use Rattle.graph.specs.declared.Found.TheVariants.{Unsound, NoLane, NoPort, Here}
 use Rattle.evaluate.specs.declared.Segment.{Segment}
 use Rattle.words.specs.declared.Cursor.{Cursor}
 use Rattle.evaluate.specs.Segments.{Route, Assignment, normalize, normal_form}
@@ -96,9 +94,3 @@ pub record NormalPut (ws xs ys : List ℕ) (count : ℕ) : Type 0 where
   pub words : ys ≡ sets xs 0 (encode (normal_form (assignment_of ws)))
   pub long : count ≡ length (encode (normal_form (assignment_of ws)))
   pub few : count ≤ length ws
-
-abbrev pub is_here : Found → Bool
-is_here (Unsound n) = false
-is_here NoLane = false
-is_here NoPort = false
-is_here Here = true

@@ -169,9 +169,6 @@ roomy_after xs ys p s q r d =
     let f = r.routes in
     rw d.pen (record { room = omega arith; second = b; head = omega arith; count = omega arith; routes = omega arith })
 
-pub roomy_less : (xs : List ℕ) (p : Pen) → Roomy xs p 5 → Roomy xs p 4
-roomy_less xs p r = let a = r.room in record { room = omega arith; second = r.second; head = r.head; count = r.count; routes = r.routes }
-
 step_path : (fs : List ℕ) (i : ℕ) (t : Bool) → eqb (stored_at fs i).slot (stored_at fs (i + 1)).slot ≡ t → path_at fs (i + 1) ≡ longer t (path_at fs i) (piece_at fs i)
 unfolding piece_at
 step_path fs i t e = rw add-one (path_suc fs i ∙ rw (← e, add-one))
@@ -296,9 +293,6 @@ module _ (family : ℕ) (fs : List ℕ) (top : ℕ) (s : Segment) (zs xs : List 
         rw n (sym (drop-drop (length (encode (assigned family fs top s)) - 3) 3 zs) ∙ ap (λ (l : List ℕ). drop (length (encode (assigned family fs top s)) - 3) l) d3 ∙ drop-drop (length (encode (assigned family fs top s)) - 3) 3 es) in
         record { room = k2.words ∙ ap (λ (w : List ℕ). w ++ drop (length w) zs) (sym e) ∙ ap (λ (l : List ℕ). encode (assigned family fs top s) ++ l) past; count = k2.at ∙ sym (ap length e) }
 
-pub added_told : (xs ys : List ℕ) (p : Pen) (s : Segment) → ys ≡ segment_put xs p.at s → Added xs (set ys p.head (p.count + 1)) p s (record { head = p.head; at = p.at + 4; count = p.count + 1; routes = p.routes })
-added_told xs ys p s e = record { room = rw e; pen = refl }
-
 -- ---- natives
 
 pub whole_told : (s : List ℕ) (h : Header) (family : Family) (i lane at : ℕ) (e : Entry) (xs ys : List ℕ) → Accepted s h → lane ≡ get_or (paths_of h s family.number) i 0 → e ≡ get_or (entries h s) lane no_entry
@@ -309,9 +303,8 @@ whole_told s h family i lane at e xs ys acc el ee ey =
     ey ∙ rw (paths_are s h family.number acc.counted.framed, ← el, len)
 
 -- the natives of the first i paths are written
-pub record Natives (p : Panel) (f n : ℕ) (zs xs : List ℕ) (at i : ℕ) : Type 0 where
-  pub words : xs ≡ (f ∷ n ∷ route_words (map (whole p) (take i (paths_at p f)))) ++ drop at zs
-  pub place : at ≡ 2 + 5 * i
+pub record Natives (p : Panel) (f n : ℕ) (zs xs : List ℕ) (i : ℕ) : Type 0 where
+  pub words : xs ≡ (f ∷ n ∷ route_words (map (whole p) (take i (paths_at p f)))) ++ drop (2 + 5 * i) zs
   pub within : i ≤ n
   pub long : length xs ≡ length zs
 
@@ -327,12 +320,15 @@ map_last : (p : Panel) (l : List ℕ) (a : ℕ) → map (whole p) (l ++ (a ∷ [
 map_last p [] a = refl
 map_last p (b ∷ l) a = ap (λ (r : List Route). whole p b ∷ r) (map_last p l a)
 
-module _ (p : Panel) (f n : ℕ) (zs xs : List ℕ) (at i : ℕ) (k : Natives p f n zs xs at i) where
-  pub natives_next : (ys : List ℕ) → length (paths_at p f) ≡ n → i < n → at + 5 ≤ length xs → ys ≡ sets xs at (route_words (whole p (get_or (paths_at p f) i 0) ∷ [])) → Natives p f n zs ys (at + 5) (i + 1)
+module _ (p : Panel) (f n : ℕ) (zs xs : List ℕ) (i : ℕ) (k : Natives p f n zs xs i) where
+  abbrev at : ℕ
+  at = 2 + 5 * i
+
+  pub natives_next : (ys : List ℕ) → length (paths_at p f) ≡ n → i < n → at + 5 ≤ length xs → ys ≡ sets xs at (route_words (whole p (get_or (paths_at p f) i 0) ∷ [])) → Natives p f n zs ys (i + 1)
   natives_next ys long lt room e =
       let done = take i (paths_at p f) in
       let front : length {A = ℕ} (f ∷ n ∷ route_words (map (whole p) (take i (paths_at p f)))) ≡ at =
-      (let w = wholes_length p (take i (paths_at p f)) in let l = length-take-le i (paths_at p f) (omega arith) in let q = k.place in omega arith) in
+      (let w = wholes_length p (take i (paths_at p f)) in let l = length-take-le i (paths_at p f) (omega arith) in omega arith) in
       let one : take at xs ≡ f ∷ n ∷ route_words (map (whole p) (take i (paths_at p f))) = rw k.words (take_at (f ∷ n ∷ route_words (map (whole p) (take i (paths_at p f)))) (drop at zs) at front) in
       let rest : drop at xs ≡ drop at zs = rw k.words (drop_at (f ∷ n ∷ route_words (map (whole p) (take i (paths_at p f)))) (drop at zs) at front) in
       let two : drop (at + 5) xs ≡ drop (at + 5) zs = sym (drop-drop 5 at xs) ∙ ap (λ (l : List ℕ). drop 5 l) rest ∙ drop-drop 5 at zs in
@@ -341,10 +337,9 @@ module _ (p : Panel) (f n : ℕ) (zs xs : List ℕ) (at i : ℕ) (k : Natives p 
       e ∙ sets-eq (route_words (whole p (get_or (paths_at p f) i 0) ∷ [])) xs at room ∙ rw (one, two) in
       let words : route_words (map (whole p) (take (i + 1) (paths_at p f))) ≡ route_words (map (whole p) (take i (paths_at p f))) ++ route_words (whole p (get_or (paths_at p f) i 0) ∷ []) =
       rw (add-one, more, map_last p (take i (paths_at p f)) (get_or (paths_at p f) i 0)) (routes_join (map (whole p) (take i (paths_at p f))) (whole p (get_or (paths_at p f) i 0) ∷ [])) in
-      let q = k.place in
+      let on : at + 5 ≡ 2 + 5 * (i + 1) = omega arith in
       record {
-        words = put ∙ ap (λ (l : List ℕ). (f ∷ n ∷ l) ++ drop (at + 5) zs) (sym words);
-        place = omega arith;
+        words = put ∙ ap (λ (l : List ℕ). (f ∷ n ∷ l) ++ drop (at + 5) zs) (sym words) ∙ ap (λ (m : ℕ). (f ∷ n ∷ route_words (map (whole p) (take (i + 1) (paths_at p f)))) ++ drop m zs) on;
         within = omega arith;
         long = ap length e ∙ length-sets xs at (route_words (whole p (get_or (paths_at p f) i 0) ∷ [])) ∙ k.long;
       }
@@ -352,28 +347,26 @@ module _ (p : Panel) (f n : ℕ) (zs xs : List ℕ) (at i : ℕ) (k : Natives p 
 stores_are : (f n : ℕ) (es zs : List ℕ) → 2 ≤ length es → zs ≡ set (set es 0 f) 1 n → zs ≡ (f ∷ n ∷ []) ++ drop 2 es
 stores_are f n es zs l e = e ∙ sets-eq (f ∷ n ∷ []) es 0 l
 
-pub natives_start : (p : Panel) (f n : ℕ) (es : List ℕ) → 2 + 5 * n ≤ length es → Natives p f n (set (set es 0 f) 1 n) (set (set es 0 f) 1 n) 2 0
+pub natives_start : (p : Panel) (f n : ℕ) (es : List ℕ) → 2 + 5 * n ≤ length es → Natives p f n (set (set es 0 f) 1 n) (set (set es 0 f) 1 n) 0
 natives_start p f n es l =
     let b = stores_are f n es (set (set es 0 f) 1 n) (omega arith) refl in
     let d : drop 2 (set (set es 0 f) 1 n) ≡ drop 2 es = rw b (drop_at (f ∷ n ∷ []) (drop 2 es) 2 refl) in
-    record { words = b ∙ ap (λ (t : List ℕ). (f ∷ n ∷ []) ++ t) (sym d); place = refl; within = omega arith; long = refl }
+    record { words = b ∙ ap (λ (t : List ℕ). (f ∷ n ∷ []) ++ t) (sym d); within = omega arith; long = refl }
 
-pub natives_done : (p : Panel) (f n : ℕ) (es ys : List ℕ) (at i : ℕ) → Natives p f n (set (set es 0 f) 1 n) ys at i → n ≤ i → length (paths_at p f) ≡ n → 2 + 5 * n ≤ length es → Written (encode (native_of p f)) es ys at
+pub natives_done : (p : Panel) (f n : ℕ) (es ys : List ℕ) (i : ℕ) → Natives p f n (set (set es 0 f) 1 n) ys i → n ≤ i → length (paths_at p f) ≡ n → 2 + 5 * n ≤ length es → Written (encode (native_of p f)) es ys (2 + 5 * n)
 unfolding encode
-natives_done p f n es ys at i k le long l =
+natives_done p f n es ys i k le long l =
     let o = k.within in
     let same : i ≡ n = omega arith in
     let b = stores_are f n es (set (set es 0 f) 1 n) (omega arith) refl in
     let d2 : drop 2 (set (set es 0 f) 1 n) ≡ drop 2 es = rw b (drop_at (f ∷ n ∷ []) (drop 2 es) 2 refl) in
-    let q = k.place in
-    let two : at ≡ 2 + (at - 2) = omega arith in
-    let past : drop at (set (set es 0 f) 1 n) ≡ drop at es =
-    rw two (sym (drop-drop (at - 2) 2 (set (set es 0 f) 1 n)) ∙ ap (λ (m : List ℕ). drop (at - 2) m) d2 ∙ drop-drop (at - 2) 2 es) in
-    let all-paths : take i (paths_at p f) ≡ paths_at p f = take_all i (paths_at p f) (omega arith) in
+    let past : drop (2 + 5 * n) (set (set es 0 f) 1 n) ≡ drop (2 + 5 * n) es =
+    sym (drop-drop (5 * n) 2 (set (set es 0 f) 1 n)) ∙ ap (λ (m : List ℕ). drop (5 * n) m) d2 ∙ drop-drop (5 * n) 2 es in
+    let all-paths : take n (paths_at p f) ≡ paths_at p f = take_all n (paths_at p f) (omega arith) in
     let count : length (map (whole p) (paths_at p f)) ≡ n = length-map (paths_at p f) (whole p) ∙ long in
-    let size : length (encode (native_of p f)) ≡ at = (let w = wholes_length p (paths_at p f) in omega arith) in
-    let words : (f ∷ n ∷ route_words (map (whole p) (take i (paths_at p f)))) ≡ encode (native_of p f) = ap₂ (λ (c : ℕ) (m : List ℕ). f ∷ c ∷ route_words (map (whole p) m)) (sym count) all-paths in
-    record { room = k.words ∙ ap₂ (λ (a b : List ℕ). a ++ b) words (past ∙ ap (λ (m : ℕ). drop m es) (sym size)); count = sym size }
+    let size : length (encode (native_of p f)) ≡ 2 + 5 * n = (let w = wholes_length p (paths_at p f) in omega arith) in
+    let words : (f ∷ n ∷ route_words (map (whole p) (take n (paths_at p f)))) ≡ encode (native_of p f) = ap₂ (λ (c : ℕ) (m : List ℕ). f ∷ c ∷ route_words (map (whole p) m)) (sym count) all-paths in
+    record { room = rw same at k.words ∙ ap₂ (λ (a b : List ℕ). a ++ b) words (past ∙ ap (λ (m : ℕ). drop m es) (sym size)); count = sym size }
 
 pub native_length : (s : List ℕ) (h : Header) (family : Family) → Accepted s h → Groups s h family → length (paths_at (panel_of s) family.number) ≡ family.count
 native_length s h family acc g = ap length (paths_are s h family.number acc.counted.framed) ∙ family_length s h family g
@@ -381,5 +374,5 @@ native_length s h family acc g = ap length (paths_are s h family.number acc.coun
 pub native_lane : (s : List ℕ) (h : Header) (family : Family) (i lane : ℕ) → Accepted s h → Groups s h family → i < family.count → lane ≡ get_or (paths_of h s family.number) i 0 → lane < h.lanes
 native_lane = path_named
 
-pub native_room : (p : Panel) (f n : ℕ) (zs xs : List ℕ) (at i : ℕ) → Natives p f n zs xs at i → i < n → 2 + 5 * n ≤ length zs → at + 5 ≤ length xs
-native_room p f n zs xs at i k lt room = let a = k.place in let l = k.long in omega arith
+pub native_room : (p : Panel) (f n : ℕ) (zs xs : List ℕ) (i : ℕ) → Natives p f n zs xs i → i < n → 2 + 5 * n ≤ length zs → 2 + 5 * i + 5 ≤ length xs
+native_room p f n zs xs i k lt room = let l = k.long in omega arith

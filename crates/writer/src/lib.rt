@@ -10,12 +10,12 @@ ghost use Rattle.evaluate.specs.Segments.{whole, native_of};
 ghost use Rattle.evaluate.specs.Words.{route_words, encode};
 ghost use Rattle.search.specs.Rooms.{frame_width};
 ghost use Rattle.walks.specs.Inner.{assigned};
-ghost use Rattle.writer.specs.Inner.{segment_put, whole_put, begun, Roomy, Added, Opened, Pieced, Written};
+ghost use Rattle.writer.specs.Inner.{whole_put, begun, Roomy, Added, Opened, Pieced, Written};
 
 use evaluate::Segment;
 
 // Where the words written so far end, where the count of the route in hand stands, that count, and how many routes there are.
-#[derive(Clone, Copy)]
+#[derive(Clone, Copy, PartialEq, Eq, Debug)]
 pub struct Pen {
     pub head: usize,
     pub at: usize,
@@ -23,18 +23,8 @@ pub struct Pen {
     pub routes: u64,
 }
 
-fn put_segment(slot: &mut [u64], at: usize, s: Segment)
-    requires { at + 4 ≤ length slot.old }
-    ensures { slot.new ≡ segment_put slot.old at s }
-{
-    let reverse = s.reverse as u64;
-    slot[at] = s.source;
-    slot[at + 1] = s.start;
-    slot[at + 2] = s.end;
-    slot[at + 3] = reverse;
-}
-
 // An assignment's words begin: its first route is empty.
+#[tactic(auto, unfolding(crate::specs::Inner::begun))]
 fn begin_words(slot: &mut [u64], family: u64) -> Pen
     requires { 3 ≤ length slot.old }
     ensures { (slot.new ≡ begun slot.old family) × (result ≡ record { head = 2; at = 3; count = 0; routes = 1 }) }
@@ -51,20 +41,18 @@ fn begin_words(slot: &mut [u64], family: u64) -> Pen
 }
 
 // One segment more in the route in hand.
+#[tactic(auto, unfolding(crate::specs::Inner::segment_put))]
 fn add_segment(slot: &mut [u64], p: Pen, s: Segment) -> Pen
     requires { Roomy slot.old p 4 }
     ensures { Added slot.old slot.new p s result }
 {
-    let at = p.at;
-    let head = p.head;
     let count = p.count + 1;
-    put_segment(slot, at, s);
-    slot[head] = count;
+    words::put_segment(slot, p.at, s);
+    slot[p.head] = count;
     Pen {
-        head,
-        at: at + 4,
+        at: p.at + Segment::WORDS,
         count,
-        routes: p.routes,
+        ..p
     }
 }
 
@@ -73,13 +61,12 @@ fn add_route(slot: &mut [u64], p: Pen) -> Pen
     requires { Roomy slot.old p 1 }
     ensures { Opened slot.old slot.new p result }
 {
-    let at = p.at;
     let routes = p.routes + 1;
-    slot[at] = 0;
+    slot[p.at] = 0;
     slot[1] = routes;
     Pen {
-        head: at,
-        at: at + 1,
+        head: p.at,
+        at: p.at + 1,
         count: 0,
         routes,
     }
@@ -107,27 +94,28 @@ pub fn put_path(slot: &mut [u64], frames: &[u64], top: usize, family: u64, s: Se
     ensures { Written (encode (assigned family frames.now top s)) slot.old slot.new result }
 {
     let mut p = begin_words(slot, family);
-    let mut i = 0;
-    while i < top {
+    for i in 0..top {
         p = add_piece(slot, p, frames, i);
-        i += 1;
     }
-    let q = add_segment(slot, p, s);
-    q.at
+    add_segment(slot, p, s).at
 }
 
 // ---- a family's native assignment
 
 // One route: a lane whole.
+#[tactic(auto, unfolding(crate::specs::Inner::whole_put))]
 fn put_whole(slot: &mut [u64], at: usize, lane: u64, len: u64)
     requires { at + 5 ≤ length slot.old }
     ensures { slot.new ≡ whole_put slot.old at lane len }
 {
     slot[at] = 1;
-    slot[at + 1] = lane;
-    slot[at + 2] = 0;
-    slot[at + 3] = len;
-    slot[at + 4] = 0;
+    let s = Segment {
+        source: lane,
+        start: 0,
+        end: len,
+        reverse: false,
+    };
+    words::put_segment(slot, at + 1, s);
 }
 
 fn put_path_whole(
@@ -154,12 +142,8 @@ pub fn put_native(slot: &mut [u64], image: &[u8], h: image::Header, family: imag
     let n = family.count;
     slot[0] = family.number as u64;
     slot[1] = n as u64;
-    let mut at = 2;
-    let mut i = 0;
-    while i < n {
-        put_path_whole(slot, at, image, h, family, i);
-        at += 5;
-        i += 1;
+    for i in 0..n {
+        put_path_whole(slot, 2 + 5 * i, image, h, family, i);
     }
-    at
+    2 + 5 * n
 }

@@ -5,8 +5,8 @@ use Rattle.advance.proofs.past_next.Goals as goal
 pub go_onward-on-requires : goal.go_onward-on-requires
 go_onward-on-requires c = (search rules, search next_small)
 
-pub returns-then-is_same_turn : goal.returns-then-is_same_turn
-returns-then-is_same_turn c = record { past = search past_opens; known = search rules }
+pub returns-then-q-f-clause-past : goal.returns-then-q-f-clause-past
+returns-then-q-f-clause-past c = search past_opens
 
-pub returns-else-is_same_turn : goal.returns-else-is_same_turn
-returns-else-is_same_turn c = record { past = search past_other; known = search rules }
+pub returns-else-q-f-clause-past : goal.returns-else-q-f-clause-past
+returns-else-q-f-clause-past c = search past_other

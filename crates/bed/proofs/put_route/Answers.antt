@@ -1,17 +1,12 @@
-use Rattle.bed.proofs.Writing.{writing_start, writing_long, writing_on, writing_next, writing_ends, lane_near, lane_span}
+use Rattle.std.proofs.Common.{arith}
+use Rattle.bed.proofs.Writing.{writing_on, writing_step, writing_ends}
 use Rattle.bed.proofs.put_route.Goals as goal
 
-pub loop-n-init : goal.loop-n-init
-loop-n-init c = search writing_start
-
 pub put_row-to-requires : goal.put_row-to-requires
-put_row-to-requires c = (search (lane_near, writing_on), search (lane_span, writing_on))
+put_row-to-requires c = writing_on c.loop-i.invariant _ (omega arith) c.segment_at-s.ensures
 
-pub loop-n-preserved : goal.loop-n-preserved
-loop-n-preserved c = search writing_next
-
-pub shape_of-out : goal.shape_of-out
-shape_of-out c = search writing_long
+pub loop-i-preserved : goal.loop-i-preserved
+loop-i-preserved c = search writing_step
 
 pub returns : goal.returns
-returns c = search writing_ends
+returns c = writing_ends c.loop-i.invariant (omega arith)

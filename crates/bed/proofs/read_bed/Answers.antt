@@ -3,10 +3,10 @@ use Rattle.bed.proofs.Answers.{read_answer_is, read_out_is, read_told, read_refu
 use Rattle.bed.proofs.read_bed.Goals as goal
 
 pub read_panel-requires : goal.read_panel-requires
-read_panel-requires c = search accepted_told
+read_panel-requires c = accepted_told _ _ c.in-Ok.ensures
 
-pub returns-in-Good : goal.returns-in-Good
-returns-in-Good c = record { value = search read_answer_is; out_after = search read_out_is; read_holds = search read_told }
+pub returns-in-Ok : goal.returns-in-Ok
+returns-in-Ok c = record { value = search read_answer_is; out_after = search read_out_is; read_holds = search read_told }
 
-pub returns-in-Refused : goal.returns-in-Refused
-returns-in-Refused c = record { value = search read_refused; out_after = search read_untouched; read_holds = search read_stopped }
+pub returns-in-Err : goal.returns-in-Err
+returns-in-Err c = record { value = search read_refused; out_after = search read_untouched; read_holds = search read_stopped }

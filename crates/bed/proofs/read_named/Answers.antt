@@ -1,18 +1,10 @@
-use borrow.Author.Rules.{rules}
-use Rattle.bed.proofs.Reading.{text_35, text_36, short_37, room_fits, text_read}
+use Rattle.std.proofs.Common.{sym, ◌∙◌}
+use borrow.Author.Tests.{leb-true, leb-false}
+use Rattle.bed.proofs.Reading.{short_37, text_read}
 use Rattle.bed.proofs.read_named.Goals as goal
 
-pub read_words-requires : goal.read_words-requires
-read_words-requires c = (search rules, search rules, search rules, search rules, search room_fits)
+pub returns-then-not-fits : goal.returns-then-not-fits
+returns-then-not-fits c = let s = c.in_ok-scan.ensures in short_37 _ _ _ _ _ s.0 s.1 s.2 (leb-false _ _ (sym c.fits.ensures ∙ c.if-not-fits.true))
 
-pub returns-then-fits : goal.returns-then-fits
-returns-then-fits c = search text_read
-
-pub returns-else-fits : goal.returns-else-fits
-returns-else-fits c = search short_37
-
-pub returns-else-s-2 : goal.returns-else-s-2
-returns-else-s-2 c = search text_36
-
-pub returns-else-s : goal.returns-else-s
-returns-else-s c = search text_35
+pub returns : goal.returns
+returns c = let s = c.in_ok-scan.ensures in text_read _ _ _ _ _ s.0 s.1 s.2 (leb-true _ _ (sym c.fits.ensures ∙ c.if-not-fits.false)) c.read_words.ensures

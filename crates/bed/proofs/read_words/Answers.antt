@@ -1,21 +1,16 @@
-use borrow.Author.Rules.{rules}
-use Rattle.bed.proofs.Reading.{scan_ok, scan_routes, words_few, words_routes, words_short, words_refused, words_given, words_22}
+use Rattle.std.proofs.Common.{sym, ◌∙◌, refl}
+use Rattle.std.proofs.lemmas.Result.{err_from_is_err_and}
+use borrow.Author.Tests.{leb-true, leb-false}
+use Rattle.bed.proofs.Reading.{words_22, words_refused, words_given}
 use Rattle.bed.proofs.read_words.Goals as goal
 
-pub held_refusal-r-requires : goal.held_refusal-r-requires
-held_refusal-r-requires c = (search rules, search rules, search scan_ok, search scan_routes)
+pub returns-then-not-fits : goal.returns-then-not-fits
+returns-then-not-fits c = words_22 _ _ _ _ c.requires.2 _ (leb-false _ _ (sym c.fits.ensures ∙ c.if-not-fits.true))
 
-pub returns-then-r-gt0 : goal.returns-then-r-gt0
-returns-then-r-gt0 c = search words_refused
+pub returns-in_err-check_held : goal.returns-in_err-check_held
+returns-in_err-check_held c =
+    let p = err_from_is_err_and c.from_residual.result c.from_residual.ensures.1 in
+    rw (p.1, p.2) (words_refused _ _ _ _ c.requires.2 (leb-true _ _ (sym c.fits.ensures ∙ c.if-not-fits.false)) _ _ c.in_err-check_held.ensures)
 
-pub put_words-requires : goal.put_words-requires
-put_words-requires c = (search rules, search scan_ok, search scan_routes, search rules, search words_few, search words_routes)
-
-pub count_words-n-requires : goal.count_words-n-requires
-count_words-n-requires c = search words_short
-
-pub returns-else-r-gt0 : goal.returns-else-r-gt0
-returns-else-r-gt0 c = search words_given
-
-pub returns-else-fits : goal.returns-else-fits
-returns-else-fits c = search words_22
+pub returns : goal.returns
+returns c = words_given _ _ _ _ c.requires.2 (leb-true _ _ (sym c.fits.ensures ∙ c.if-not-fits.false)) _ _ _ c.in_ok-check_held.ensures c.put_words.ensures refl

@@ -3,10 +3,10 @@ use Rattle.bed.proofs.Answers.{write-answer, write-out, write_told, write_refuse
 use Rattle.bed.proofs.write_bed.Goals as goal
 
 pub write_panel-requires : goal.write_panel-requires
-write_panel-requires c = search accepted_told
+write_panel-requires c = accepted_told _ _ c.in-Ok.ensures
 
-pub returns-in-Good : goal.returns-in-Good
-returns-in-Good c = record { value = search write-answer; out_after = search write-out; write_holds = search write_told }
+pub returns-in-Ok : goal.returns-in-Ok
+returns-in-Ok c = record { value = search write-answer; out_after = search write-out; write_holds = search write_told }
 
-pub returns-in-Refused : goal.returns-in-Refused
-returns-in-Refused c = record { value = search write_refused; out_after = search write_untouched; write_holds = search write_stopped }
+pub returns-in-Err : goal.returns-in-Err
+returns-in-Err c = record { value = search write_refused; out_after = search write_untouched; write_holds = search write_stopped }

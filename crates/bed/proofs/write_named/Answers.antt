@@ -1,12 +1,11 @@
-use Rattle.bed.proofs.Calls.{named_refused, named_ready, named_long, named_written}
-use borrow.Author.Rules.{rules}
+use Rattle.bed.proofs.Calls.{named_long, named_ready, named_written}
 use Rattle.bed.proofs.write_named.Goals as goal
 
 pub write_text-requires : goal.write_text-requires
-write_text-requires c = (search rules, search named_long, search named_ready)
+write_text-requires c =
+    let a = c.requires.0 in
+    let q = c.in_ok-check_given.ensures in
+    (named_long _ _ _ a q, rw c.requires.1 (named_ready _ _ _ a q))
 
-pub returns-then-r-gt0 : goal.returns-then-r-gt0
-returns-then-r-gt0 c = search named_refused
-
-pub returns-else-r-gt0 : goal.returns-else-r-gt0
-returns-else-r-gt0 c = search named_written
+pub returns : goal.returns
+returns c = named_written _ _ _ _ _ c.requires.0 c.in_ok-check_given.ensures c.write_text.ensures

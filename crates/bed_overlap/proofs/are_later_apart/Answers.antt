@@ -1,21 +1,14 @@
-use Rattle.bed_overlap.proofs.Meeting.{meeting_start, meeting_lined, meeting_less, meeting_again, meeting_fails, meeting_ends}
-use borrow.Author.Rules.{rules}
+use Rattle.bed_overlap.proofs.Meeting.{meeting_start, meeting_again, meeting_fails, meeting_ends}
 use Rattle.bed_overlap.proofs.are_later_apart.Goals as goal
 
-pub loop-more-init : goal.loop-more-init
-loop-more-init c = (search meeting_start, search rules, search rules)
+pub loop-next-init : goal.loop-next-init
+loop-next-init c = search meeting_start
 
-pub is_next_apart-later-requires : goal.is_next_apart-later-requires
-is_next_apart-later-requires c = (search rules, search meeting_lined, search rules, search rules)
+pub returns-then-text-next : goal.returns-then-text-next
+returns-then-text-next c = let e = c.in-Some.ensures in meeting_ends c.loop-next.invariant e.told.1 e.told.0 c.if-text-next.true
 
-pub loop-more-smaller : goal.loop-more-smaller
-loop-more-smaller c = search meeting_less
-
-pub loop-more-preserved : goal.loop-more-preserved
-loop-more-preserved c = (search meeting_again, search rules, search rules)
-
-pub returns-else-later : goal.returns-else-later
-returns-else-later c = search meeting_fails
+pub loop-next-preserved : goal.loop-next-preserved
+loop-next-preserved c = let e = c.in-Some.ensures in meeting_again c.loop-next.invariant e.told.1 e.told.0 e.same
 
 pub returns : goal.returns
-returns c = search meeting_ends
+returns c = let e = c.in_default.ensures in meeting_fails c.loop-next.invariant e.told

@@ -1,13 +1,10 @@
-use Rattle.bed_overlap.proofs.Meeting.{Meeting}
-use Prim.Native.Nat.{◌+◌, ◌-◌}
-use mathlib.Core.Path.{◌≡◌}
-use lib.ListN.{length}
-use Rattle.evaluate.specs.Words.{bit}
+use Rattle.std.proofs.Common.{◌-◌, length}
 use Rattle.names.specs.Names.{lines_of}
+use Rattle.bed_overlap.proofs.Meeting.{Meeting}
 use Rattle.bed_overlap.proofs.are_later_apart.Given as goal
 
-abbrev pub invariant-loop-more : goal.invariant-loop-more
-invariant-loop-more l = Meeting (lines_of l.names) l.text l.at l.count l.initial.room l.room l.from l.more × (l.n ≡ length l.text) × (length l.room ≡ length l.initial.room)
+abbrev pub invariant-loop-next : goal.invariant-loop-next
+invariant-loop-next l = Meeting (lines_of l.table.names.now) l.text l.at l.count l.initial.room l.room l.from
 
-abbrev pub decreases-loop-more : goal.decreases-loop-more
-decreases-loop-more l = l.n - l.from + bit l.more
+abbrev pub decreases-loop-next : goal.decreases-loop-next
+decreases-loop-next l = length l.text - l.from

@@ -1,12 +1,7 @@
-use mathlib.Core.Path.{◌∙◌}
+use Rattle.std.proofs.Common.{◌∙◌}
 use lib.Ieee.{of_bits}
-use borrow.Author.Rules.{rules}
 use Rattle.bound.proofs.Laws.{above_zero, not_above_zero}
 use Rattle.bound.proofs.is_background.Goals as goal
-
-pub is_finite-requires : goal.is_finite-requires
-unfolding of_bits
-is_finite-requires c = search rules
 
 pub returns-then-x : goal.returns-then-x
 unfolding of_bits
@@ -14,4 +9,4 @@ returns-then-x c = c.is_finite.ensures ∙ above_zero c.args.x c.if-x.true
 
 pub returns-else-x : goal.returns-else-x
 unfolding of_bits
-returns-else-x c = not_above_zero c.args.x c.if-x.false
+returns-else-x c = c.if-x.false ∙ not_above_zero c.args.x c.if-x.false

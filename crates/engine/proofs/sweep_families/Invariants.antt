@@ -1,9 +1,5 @@
-use Prim.Native.Nat.{◌-◌}
 use Rattle.engine.proofs.Sweeping.{Sweeping}
 use Rattle.engine.proofs.sweep_families.Given as goal
 
 abbrev pub invariant-loop-n : goal.invariant-loop-n
 invariant-loop-n l = Sweeping l.image l.h l.initial.path l.initial.slot l.initial.out l.initial.told l.memo l.path l.slot l.out l.n l.start l.told
-
-abbrev pub decreases-loop-n : goal.decreases-loop-n
-decreases-loop-n l = l.h.families - l.n

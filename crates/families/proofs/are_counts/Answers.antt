@@ -1,15 +1,10 @@
+use Rattle.std.proofs.Common.{rules, tests}
+use Rattle.ground.proofs.Ranges.{all_of_range}
+use Rattle.image.specs.Image.{path_counts}
 use Rattle.image.proofs.Laws.{path_counts_length}
-use Rattle.ground.proofs.ListLaws.{all_start, all_again, all_fails, all_ends}
+use Rattle.families.specs.Families.{count_ok}
 use Rattle.families.proofs.are_counts.Goals as goal
 
-pub loop-i-init : goal.loop-i-init
-loop-i-init c = search all_start
-
-pub loop-i-preserved : goal.loop-i-preserved
-loop-i-preserved c = search (all_again, path_counts_length)
-
-pub returns-else-is_count : goal.returns-else-is_count
-returns-else-is_count c = search (all_fails, path_counts_length)
-
 pub returns : goal.returns
-returns c = search (all_ends, path_counts_length)
+unfolding count_ok
+returns c = all_of_range 0 count_ok (path_counts c.args.h c.args.image.now) c.args.h.families (search path_counts_length) c.all.result c.all.ensures.ran (λ i b q k. search (rules, tests))

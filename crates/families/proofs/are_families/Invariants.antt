@@ -1,6 +1,5 @@
 use mathlib.Core.Path.{◌≡◌}
 use Rattle.ground.proofs.ListLaws.{AllFrom}
-use Prim.Native.Nat.{◌-◌}
 use Rattle.image.specs.Image.{path_counts, families}
 use lib.ListN.{take}
 use Rattle.ground.specs.Lists.{sum}
@@ -8,7 +7,4 @@ use Rattle.families.specs.Families.{no_twice}
 use Rattle.families.proofs.are_families.Given as goal
 
 abbrev pub invariant-loop-i : goal.invariant-loop-i
-invariant-loop-i l = AllFrom no_twice (families l.h l.image) l.n l.i × (l.start ≡ sum (take l.i (path_counts l.h l.image)))
-
-abbrev pub decreases-loop-i : goal.decreases-loop-i
-decreases-loop-i l = l.n - l.i
+invariant-loop-i l = AllFrom no_twice (families l.h l.image) l.i-end l.i × (l.start ≡ sum (take l.i (path_counts l.h l.image)))

@@ -1,15 +1,10 @@
+use Rattle.std.proofs.Common.{rules, tests}
+use Rattle.ground.proofs.Ranges.{all_of_range}
+use Rattle.image.specs.Image.{paths}
 use Rattle.image.proofs.Laws.{paths_length}
-use Rattle.ground.proofs.ListLaws.{all_start, all_again, all_fails, all_ends}
+use Rattle.families.specs.Families.{names}
 use Rattle.families.proofs.are_named.Goals as goal
 
-pub loop-i-init : goal.loop-i-init
-loop-i-init c = search all_start
-
-pub loop-i-preserved : goal.loop-i-preserved
-loop-i-preserved c = search (all_again, paths_length)
-
-pub returns-else-is_named : goal.returns-else-is_named
-returns-else-is_named c = search (all_fails, paths_length)
-
 pub returns : goal.returns
-returns c = search (all_ends, paths_length)
+unfolding names
+returns c = all_of_range 0 (names c.args.h) (paths c.args.h c.args.image.now) c.args.h.paths (search paths_length) c.all.result c.all.ensures.ran (λ i b q k. search (rules, tests))

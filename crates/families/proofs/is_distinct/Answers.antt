@@ -1,32 +1,20 @@
-use Rattle.families.specs.Families.{no_twice}
-use Rattle.image.proofs.Laws.{family_length}
+use Rattle.std.proofs.Common.{◌+◌, eqb, get_or, rules}
 use Rattle.ground.proofs.ListLaws.{distinct_start, distinct_again, distinct_fails, distinct_ends}
-use borrow.Author.Rules.{rules}
+use Rattle.image.specs.Image.{paths_of}
+use Rattle.image.proofs.Laws.{family_length}
+use Rattle.families.specs.Families.{no_twice}
+use Rattle.families.proofs.Laws.{any_from_range}
 use Rattle.families.proofs.is_distinct.Goals as goal
 
 pub loop-i-init : goal.loop-i-init
-unfolding no_twice
 loop-i-init c = search distinct_start
 
-pub comes_again-requires : goal.comes_again-requires
+pub returns-then-any : goal.returns-then-any
 unfolding no_twice
-comes_again-requires c = search rules
-
-pub returns-then-comes_again : goal.returns-then-comes_again
-unfolding no_twice
-returns-then-comes_again c = search (distinct_fails, family_length)
-
-pub overflow_add-i : goal.overflow_add-i
-unfolding no_twice
-overflow_add-i c = search rules
-
-pub loop-i-smaller : goal.loop-i-smaller
-unfolding no_twice
-loop-i-smaller c = search rules
+returns-then-any c = distinct_fails 0 eqb _ _ _ _ c.loop-i.invariant c.loop-i-test.true (any_from_range 0 (eqb (get_or (paths_of c.args.h c.args.image.now c.args.f.number) c.loop-i.i 0)) (paths_of c.args.h c.args.image.now c.args.f.number) (c.loop-i.i + 1) c.args.f.count (search family_length) c.any.result c.any.ensures.ran (λ i b q k. search rules)) (search family_length) c.if-any.true
 
 pub loop-i-preserved : goal.loop-i-preserved
-unfolding no_twice
-loop-i-preserved c = search (distinct_again, family_length)
+loop-i-preserved c = distinct_again 0 eqb _ _ _ _ c.loop-i.invariant c.loop-i-test.true (any_from_range 0 (eqb (get_or (paths_of c.args.h c.args.image.now c.args.f.number) c.loop-i.i 0)) (paths_of c.args.h c.args.image.now c.args.f.number) (c.loop-i.i + 1) c.args.f.count (search family_length) c.any.result c.any.ensures.ran (λ i b q k. search rules)) (search family_length) c.if-any.false
 
 pub returns : goal.returns
 unfolding no_twice

@@ -1,15 +1,11 @@
-use Rattle.ground.proofs.ListLaws.{all_ends, all_again, all_start, all_fails}
-use Rattle.frames.proofs.Laws.{pieces_length, clear_is}
+use Rattle.std.proofs.Common.{◌∙◌, refl, rules, tests, arith}
+use Rattle.std.proofs.lemmas.Iterator.{YieldsList-from_range}
+use Rattle.std.proofs.lemmas.Iterator.Search.{all_from_yields_List}
+use Rattle.frames.specs.Inner.{piece_at, apart_from}
+use Rattle.frames.proofs.Laws.{clear_of}
 use Rattle.frames.proofs.is_clear.Goals as goal
 
-pub loop-i-init : goal.loop-i-init
-loop-i-init c = search all_start
-
-pub loop-i-preserved : goal.loop-i-preserved
-loop-i-preserved c = search (all_again, pieces_length)
-
-pub returns-else-is_apart_at : goal.returns-else-is_apart_at
-returns-else-is_apart_at c = search (clear_is, all_fails, pieces_length)
-
 pub returns : goal.returns
-returns c = search (clear_is, all_ends, pieces_length)
+returns c =
+    all_from_yields_List (λ i. apart_from c.args.s (piece_at c.args.frames.now i)) _ _ c.all.result c.all.ensures.ran (YieldsList-from_range 0 c.args.n c.args.n refl (omega arith)) (λ i b q k. search (rules, tests))
+    ∙ clear_of c.args.frames.now c.args.s c.args.n

@@ -18,5 +18,5 @@ returns-then-stands_at c = search port_here
 pub returns-else-stands_at : goal.returns-else-stands_at
 returns-else-stands_at c = search port_other
 
-pub returns-else-i-l : goal.returns-else-i-l
-returns-else-i-l c = search port_past
+pub returns-then-l-i : goal.returns-then-l-i
+returns-then-l-i c = search port_past

@@ -7,11 +7,11 @@ returns-then-len-lt-SIZE c = search open_short
 pub is_packed-requires : goal.is_packed-requires
 is_packed-requires c = search bounds_told
 
-pub returns-then-is_packed : goal.returns-then-is_packed
-returns-then-is_packed c = search open_good
+pub returns-then-not-in_bounds : goal.returns-then-not-in_bounds
+returns-then-not-in_bounds c = search open_bounds
 
-pub returns-else-is_packed : goal.returns-else-is_packed
-returns-else-is_packed c = search open_packed
+pub returns-then-not-is_packed : goal.returns-then-not-is_packed
+returns-then-not-is_packed c = search open_packed
 
-pub returns-else-in_bounds : goal.returns-else-in_bounds
-returns-else-in_bounds c = search open_bounds
+pub returns : goal.returns
+returns c = search open_good

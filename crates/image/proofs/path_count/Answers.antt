@@ -2,10 +2,6 @@ use Rattle.image.specs.Image.{path_counts}
 use borrow.Author.Rules.{rules}
 use Rattle.image.proofs.path_count.Goals as goal
 
-pub number_at-requires : goal.number_at-requires
-unfolding path_counts
-number_at-requires c = search rules
-
 pub returns : goal.returns
 unfolding path_counts
 returns c = search rules

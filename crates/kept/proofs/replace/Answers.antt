@@ -1,8 +1,8 @@
-use Rattle.kept.proofs.Steps.{tidy_prune, tidy_prune_scores, replaced_law}
+use Rattle.kept.proofs.Steps.{tidy_prune, tidy_prune_scores, replaced_with}
 use Rattle.kept.proofs.replace.Goals as goal
 
-pub prune-r-requires : goal.prune-r-requires
-prune-r-requires c = (search tidy_prune, search tidy_prune_scores)
+pub prune-count-requires : goal.prune-count-requires
+prune-count-requires c = rw c.unwrap_or-held.ensures (search tidy_prune, search tidy_prune_scores)
 
 pub returns : goal.returns
-returns c = search replaced_law
+returns c = replaced_with c.unwrap_or-held.ensures c.requires c.prune-count.ensures c.copy_slot.ensures

@@ -1,15 +1,11 @@
+use Rattle.std.proofs.Common.{rules, tests}
+use Rattle.ground.proofs.Ranges.{all_of_range}
+use Rattle.storage.specs.Records.{no_port}
+use Rattle.image.specs.Image.{ports_of}
+use Rattle.image.specs.Panel.{panel_of}
 use Rattle.image.proofs.Laws.{row_length}
-use Rattle.ground.proofs.ListLaws.{all_start, all_again, all_fails, all_ends}
+use Rattle.letters.specs.Letters.{word_fits}
 use Rattle.letters.proofs.are_words_of.Goals as goal
 
-pub loop-i-init : goal.loop-i-init
-loop-i-init c = search all_start
-
-pub loop-i-preserved : goal.loop-i-preserved
-loop-i-preserved c = search (all_again, row_length)
-
-pub returns-else-is_word_of : goal.returns-else-is_word_of
-returns-else-is_word_of c = search (all_fails, row_length)
-
 pub returns : goal.returns
-returns c = search (all_ends, row_length)
+returns c = all_of_range no_port (word_fits (panel_of c.args.image.now) c.args.letters.now) (ports_of c.args.h c.args.image.now c.args.l.number) c.args.l.count (search row_length) c.all.result c.all.ensures.ran (λ i b q k. search (rules, tests))

@@ -1,11 +1,6 @@
-use mathlib.Core.Path.{◌≡◌}
 use Rattle.lines.proofs.Laws.{Adding}
 use Rattle.image.specs.Image.{paths_of}
-use Prim.Native.Nat.{◌-◌}
 use Rattle.lines.proofs.foreign_on.Given as goal
 
 abbrev pub invariant-loop-slot : goal.invariant-loop-slot
-invariant-loop-slot l = Adding (paths_of l.h l.image l.f.number) l.count l.words l.routes l.place l.slot l.sum × (l.count ≡ l.f.count)
-
-abbrev pub decreases-loop-slot : goal.decreases-loop-slot
-decreases-loop-slot l = l.routes - l.slot
+invariant-loop-slot l = Adding (paths_of l.h l.image l.f.number) l.words l.routes l.place l.slot l.sum

@@ -1,8 +1,5 @@
 use Rattle.lines.proofs.Laws.{Writing}
 use Rattle.lines.proofs.put_route.Given as goal
 
-abbrev pub invariant-loop-n : goal.invariant-loop-n
-invariant-loop-n l = Writing l.slot l.words l.from l.left l.initial.out l.at l.place l.n l.out l.to
-
-abbrev pub decreases-loop-n : goal.decreases-loop-n
-decreases-loop-n l = l.n
+abbrev pub invariant-loop-i : goal.invariant-loop-i
+invariant-loop-i l = Writing l.slot l.words l.from l.left l.initial.out l.at l.i l.out l.to

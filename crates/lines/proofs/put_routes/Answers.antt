@@ -1,4 +1,4 @@
-use Rattle.lines.proofs.Laws.{listing_ends, listing_long, listing_next, listing_route, listing_start}
+use Rattle.lines.proofs.Laws.{listing_ends, listing_next, listing_route, listing_start}
 use Rattle.lines.proofs.put_routes.Goals as goal
 
 pub loop-slot-init : goal.loop-slot-init
@@ -9,9 +9,6 @@ count_at-left-requires c = search listing_route
 
 pub loop-slot-preserved : goal.loop-slot-preserved
 loop-slot-preserved c = search listing_next
-
-pub shape_of-out : goal.shape_of-out
-shape_of-out c = search listing_long
 
 pub returns : goal.returns
 returns c = search listing_ends

@@ -1,19 +1,14 @@
-use Rattle.names.proofs.Laws.{all_again_take, all_fails_take, all_ends_take, one_span}
-use Rattle.ground.proofs.ListLaws.{all_start}
-use borrow.Author.Rules.{rules}
+use Rattle.std.proofs.Common.{◌-◌, get_or, take, drop, arith, rules, tests}
+use Rattle.std.proofs.lemmas.Iterator.{YieldsList-from_range}
+use Rattle.std.proofs.lemmas.Iterator.Search.{all_from_yields_List}
+use Rattle.names.specs.Names.{name_ok}
+use Rattle.names.proofs.Laws.{names_all}
 use Rattle.names.proofs.are_names.Goals as goal
 
-pub loop-i-init : goal.loop-i-init
-loop-i-init c = search all_start
-
-pub is_name_of-requires : goal.is_name_of-requires
-is_name_of-requires c = (search rules, search one_span)
-
-pub loop-i-preserved : goal.loop-i-preserved
-loop-i-preserved c = search all_again_take
-
-pub returns-else-is_name_of : goal.returns-else-is_name_of
-returns-else-is_name_of c = search all_fails_take
-
 pub returns : goal.returns
-returns c = search all_ends_take
+returns c =
+    let s = c.args.names.now in
+    let starts = c.args.starts.now in
+    let ends = c.args.ends.now in
+    names_all c.requires.2 c.requires.1
+    (all_from_yields_List (λ j. name_ok (take (get_or ends j 0 - get_or starts j 0) (drop (get_or starts j 0) s))) _ _ _ c.all.ensures.ran (YieldsList-from_range 0 c.args.lanes c.args.lanes (cc) (omega arith)) (λ i b q k. search (rules, tests)))

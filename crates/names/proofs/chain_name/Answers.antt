@@ -1,5 +1,5 @@
-use Rattle.names.proofs.Laws.{chain_more}
+use Rattle.names.proofs.Laws.{chain_more, part_is}
 use Rattle.names.proofs.chain_name.Goals as goal
 
 pub returns : goal.returns
-returns c = search chain_more
+returns c = search (chain_more, part_is)

@@ -1,19 +1,17 @@
-use Rattle.names.specs.Names.{name_ok}
-use borrow.Author.Rules.{rules}
+use Rattle.std.proofs.Common.{◌≡◌, ◌∙◌, rules, tests}
+use Rattle.std.proofs.lemmas.Iterator.{YieldsList-from_slice}
+use Rattle.std.proofs.lemmas.Iterator.Search.{all_from_yields_List}
+use Rattle.ground.specs.Lists.{all}
+use Rattle.names.specs.Names.{printing, name_ok}
+use Rattle.names.proofs.Bytes.{all_is}
 use Rattle.names.proofs.is_name.Goals as goal
 
-pub is_within-requires : goal.is_within-requires
+pub returns-then-contains : goal.returns-then-contains
 unfolding name_ok
-is_within-requires c = search rules
+returns-then-contains c =
+    let e : c.all.result ≡ all printing c.args.s.now = all_from_yields_List printing _ _ _ c.all.ensures.ran (YieldsList-from_slice c.args.s.now cc) (λ x b q k. search (rules, tests)) ∙ all_is printing c.args.s.now in
+    search rules
 
-pub is_printed-requires : goal.is_printed-requires
+pub returns-else-contains : goal.returns-else-contains
 unfolding name_ok
-is_printed-requires c = search rules
-
-pub both-requires : goal.both-requires
-unfolding name_ok
-both-requires c = search rules
-
-pub returns : goal.returns
-unfolding name_ok
-returns c = cc
+returns-else-contains c = search rules

@@ -1,14 +1,15 @@
+use borrow.Author.Rules.{rules}
 use Rattle.overlap.proofs.ChainLaws.{linking_again, linking_ends, linking_fails, linking_start}
 use Rattle.overlap.proofs.link_route.Goals as goal
 
-pub loop-n-init : goal.loop-n-init
-loop-n-init c = search linking_start
+pub loop-i-init : goal.loop-i-init
+loop-i-init c = search linking_start
 
-pub loop-n-preserved : goal.loop-n-preserved
-loop-n-preserved c = search linking_again
+pub returns-then-not-link : goal.returns-then-not-link
+returns-then-not-link c = linking_fails c.loop-i.invariant c.loop-i-test.true _ c.link.ensures c.if-not-link.true
 
-pub returns-else-link : goal.returns-else-link
-returns-else-link c = search linking_fails
+pub loop-i-preserved : goal.loop-i-preserved
+loop-i-preserved c = search linking_again
 
 pub returns : goal.returns
-returns c = search linking_ends
+returns c = search (rules, linking_ends)

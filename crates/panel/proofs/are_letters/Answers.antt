@@ -1,11 +1,11 @@
-use Rattle.panel.proofs.Laws.{letters_length, tested_all, tested_next, tested_start}
+use Rattle.std.proofs.Common.{◌≡◌, ◌+◌, ◌-◌, arith, rules}
+use Rattle.panel.proofs.Laws.{tested_next, tested_all}
 use Rattle.panel.proofs.are_letters.Goals as goal
 
-pub loop-i-init : goal.loop-i-init
-loop-i-init c = search tested_start
-
-pub loop-i-preserved : goal.loop-i-preserved
-loop-i-preserved c = tested_next _ _ _ _ _ c.loop-i.invariant (letters_length _ _ _ c.requires) _ c.loop-i-test.true c.is_letter_at.ensures c.both-good.ensures
+pub loop-b-preserved : goal.loop-b-preserved
+loop-b-preserved c = tested_next _ _ _ c.loop-b.invariant _ c.loop-b-test.true (search rules)
 
 pub returns : goal.returns
-returns c = search (tested_all, letters_length)
+returns c =
+    let k : c.args.at + c.args.k - c.args.at ≡ c.args.k = omega arith in
+    rw k at (tested_all _ _ _ c.loop-b.invariant c.loop-b-test.false)

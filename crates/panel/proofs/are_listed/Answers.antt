@@ -1,33 +1,16 @@
-use Rattle.panel.specs.Refusals.{sound8}
+use Rattle.std.proofs.Common.{◌+◌, ◌*◌, drop, rules, tests}
+use Rattle.std.proofs.iter.Serving.{serving}
+use Rattle.storage.specs.Records.{no_port, port_of, record_size}
+use Rattle.image.specs.Image.{hub}
 use Rattle.image.proofs.Laws.{hub_length}
-use Rattle.ground.proofs.ListLaws.{all_start, all_again, all_fails, all_ends}
-use borrow.Author.Rules.{rules}
+use Rattle.panel.specs.Refusals.{listed, sound8}
+use Rattle.panel.proofs.Laws.{hub_named_at, listed_at}
+use Rattle.panel.proofs.Ranges.{all_by_index}
 use Rattle.panel.proofs.are_listed.Goals as goal
 
-pub loop-i-init : goal.loop-i-init
-unfolding sound8
-loop-i-init c = search all_start
-
-pub is_listed_at-requires : goal.is_listed_at-requires
-unfolding sound8
-is_listed_at-requires c = search rules
-
-pub overflow_add-i : goal.overflow_add-i
-unfolding sound8
-overflow_add-i c = search rules
-
-pub loop-i-smaller : goal.loop-i-smaller
-unfolding sound8
-loop-i-smaller c = search rules
-
-pub loop-i-preserved : goal.loop-i-preserved
-unfolding sound8
-loop-i-preserved c = search (all_again, hub_length)
-
-pub returns-else-is_listed_at : goal.returns-else-is_listed_at
-unfolding sound8
-returns-else-is_listed_at c = search (all_fails, hub_length)
+pub all-requires-clause-callable : goal.all-requires-clause-callable
+all-requires-clause-callable c = grind (serving, hub_named_at)
 
 pub returns : goal.returns
 unfolding sound8
-returns c = search (all_ends, hub_length)
+returns c = all_by_index no_port (listed c.args.h c.args.image.now) (hub c.args.h c.args.image.now) c.args.h.ports (search hub_length) c.all.result (λ i. listed c.args.h c.args.image.now (port_of c.args.h.k (drop (c.args.h.hub_at + i * record_size c.args.h.k) c.args.image.now))) (listed_at _ _) c.all.ensures.ran (λ i b q k. search (rules, tests))

@@ -1,33 +1,11 @@
-use Rattle.panel.specs.Refusals.{own_row}
+use Rattle.std.proofs.Common.{rules, tests}
+use Rattle.ground.proofs.Ranges.{all_of_range}
+use Rattle.storage.specs.Records.{no_port}
+use Rattle.image.specs.Image.{ports_of}
 use Rattle.image.proofs.Laws.{row_length}
-use Rattle.ground.proofs.ListLaws.{all_start, all_again, all_fails, all_ends}
-use borrow.Author.Rules.{rules}
+use Rattle.panel.specs.Refusals.{from, own_row}
 use Rattle.panel.proofs.is_own.Goals as goal
 
-pub loop-i-init : goal.loop-i-init
-unfolding own_row
-loop-i-init c = search all_start
-
-pub is_from-requires : goal.is_from-requires
-unfolding own_row
-is_from-requires c = search rules
-
-pub overflow_add-i : goal.overflow_add-i
-unfolding own_row
-overflow_add-i c = search rules
-
-pub loop-i-smaller : goal.loop-i-smaller
-unfolding own_row
-loop-i-smaller c = search rules
-
-pub loop-i-preserved : goal.loop-i-preserved
-unfolding own_row
-loop-i-preserved c = search (all_again, row_length)
-
-pub returns-else-is_from : goal.returns-else-is_from
-unfolding own_row
-returns-else-is_from c = search (all_fails, row_length)
-
 pub returns : goal.returns
-unfolding own_row
-returns c = search (all_ends, row_length)
+unfolding from own_row
+returns c = all_of_range no_port (from c.args.l.number) (ports_of c.args.h c.args.image.now c.args.l.number) c.args.l.count (search row_length) c.all.result c.all.ensures.ran (λ i b q k. search (rules, tests))

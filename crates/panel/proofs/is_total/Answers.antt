@@ -1,15 +1,7 @@
+use Rattle.std.proofs.Common.{rules}
+use Rattle.image.specs.Image.{counts}
 use Rattle.image.proofs.Laws.{counts_length}
-use Rattle.ground.proofs.ListLaws.{sums_start, sums_again, sums_over, sums_ends}
 use Rattle.panel.proofs.is_total.Goals as goal
 
-pub loop-i-init : goal.loop-i-init
-loop-i-init c = search sums_start
-
-pub returns-then-left-x : goal.returns-then-left-x
-returns-then-left-x c = search (sums_over, counts_length)
-
-pub loop-i-preserved : goal.loop-i-preserved
-loop-i-preserved c = search (sums_again, counts_length)
-
 pub returns : goal.returns
-returns c = search (sums_ends, counts_length)
+returns c = c.adds_up.ensures (counts c.args.h c.args.image.now) (search counts_length) (λ i x lt k. search rules)

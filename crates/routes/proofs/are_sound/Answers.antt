@@ -1,14 +1,8 @@
-use Rattle.words.proofs.Loops.{segments_fails, segments_ends, segments_start, segments_again}
+use Rattle.std.proofs.Common.{rules, tests}
+use Rattle.evaluate.specs.Segments.{sound_span}
+use Rattle.image.specs.Panel.{panel_of}
+use Rattle.words.proofs.Loops.{all_segments}
 use Rattle.routes.proofs.are_sound.Goals as goal
 
-pub loop-n-init : goal.loop-n-init
-loop-n-init c = search segments_start
-
-pub loop-n-preserved : goal.loop-n-preserved
-loop-n-preserved c = search segments_again
-
-pub returns-else-is_sound : goal.returns-else-is_sound
-returns-else-is_sound c = search segments_fails
-
 pub returns : goal.returns
-returns c = search segments_ends
+returns c = all_segments (sound_span (panel_of c.args.image.now)) c.args.words.now c.args.at c.args.left c.all.result c.all.ensures.ran (λ i b q k. search (rules, tests))

@@ -1,20 +1,27 @@
-use Rattle.rows.proofs.Laws.{spelling_start, digits_low, digits_high, digits_over, spelling_next, spelling_ends}
+use Rattle.std.proofs.Common.{◌≡◌, true, false, get_or, ◌∙◌, sym, arith}
+use Rattle.rows.specs.Rows.{digit}
+use Rattle.rows.proofs.Laws.{digits_other, digits_over, spelling_next, spelling_ends}
 use Rattle.rows.proofs.digits_of.Goals as goal
 
-pub loop-i-init : goal.loop-i-init
-loop-i-init c = search spelling_start
+pub returns-then-not-is_ascii_digit : goal.returns-then-not-is_ascii_digit
+returns-then-not-is_ascii_digit c =
+    let e : digit (get_or c.args.s.now c.loop-x.x-index 0) ≡ false = sym c.is_ascii_digit.ensures.value ∙ c.if-not-is_ascii_digit.true in
+    digits_other c.loop-x.invariant c.loop-x-test.true e
 
-pub returns-then-x-lt48 : goal.returns-then-x-lt48
-returns-then-x-lt48 c = search digits_low
+pub returns-in_err-checked_mul : goal.returns-in_err-checked_mul
+returns-in_err-checked_mul c =
+    let e : digit (get_or c.args.s.now c.loop-x.x-index 0) ≡ true = sym c.is_ascii_digit.ensures.value ∙ c.if-not-is_ascii_digit.false in
+    rw c.from_residual.ensures (digits_over c.loop-x.invariant c.loop-x-test.true e (omega (arith, c.in_err-checked_mul.ensures)))
 
-pub returns-then-x-gt57 : goal.returns-then-x-gt57
-returns-then-x-gt57 c = search digits_high
+pub returns-in_err-value : goal.returns-in_err-value
+returns-in_err-value c =
+    let e : digit (get_or c.args.s.now c.loop-x.x-index 0) ≡ true = sym c.is_ascii_digit.ensures.value ∙ c.if-not-is_ascii_digit.false in
+    rw c.from_residual-in_err-value.ensures (digits_over c.loop-x.invariant c.loop-x-test.true e (omega (arith, c.in_ok-checked_mul.ensures, c.in_err-value.ensures)))
 
-pub returns-then-d-value : goal.returns-then-d-value
-returns-then-d-value c = search digits_over
-
-pub loop-i-preserved : goal.loop-i-preserved
-loop-i-preserved c = search spelling_next
+pub loop-x-preserved : goal.loop-x-preserved
+loop-x-preserved c =
+    let e : digit (get_or c.args.s.now c.loop-x.x-index 0) ≡ true = sym c.is_ascii_digit.ensures.value ∙ c.if-not-is_ascii_digit.false in
+    spelling_next c.loop-x.invariant c.loop-x-test.true e c.in_ok-value.value (omega (arith, c.in_ok-checked_mul.ensures, c.in_ok-value.ensures)) (omega (arith, c.in_ok-checked_mul.ensures, c.in_ok-value.ensures))
 
 pub returns : goal.returns
 returns c = search spelling_ends

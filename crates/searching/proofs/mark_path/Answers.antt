@@ -1,5 +1,5 @@
 use borrow.Author.Rules.{rules}
-use Rattle.searching.proofs.Entering.{words_formed, words_marked}
+use Rattle.searching.proofs.Entering.{words_marked, words_formed}
 use Rattle.searching.proofs.mark_path.Goals as goal
 
 pub marks_of-requires : goal.marks_of-requires

@@ -3,7 +3,7 @@ use Rattle.graph.proofs.Laws.{accepted_told}
 use Rattle.sheets.proofs.answer_panel.Goals as goal
 
 pub answer_search-requires : goal.answer_search-requires
-answer_search-requires c = search accepted_told
+answer_search-requires c = accepted_told _ _ c.in-Ok.ensures
 
-pub returns-in-Refused : goal.returns-in-Refused
-returns-in-Refused c = search panel_put
+pub returns-in-Err : goal.returns-in-Err
+returns-in-Err c = search panel_put

@@ -1,18 +1,16 @@
-use borrow.Author.Rules.{rules}
-use Rattle.slots.proofs.Unused.{blanking_none, blanking_more, blanking_fits, blanking_score, blanking_all}
+use Rattle.std.proofs.Common.{◌+◌, ◌*◌, refl, add-mul}
+use lib.Ieee.{of_bits}
+use Rattle.search.specs.Budget.{zero_score}
+use Rattle.slots.proofs.Words.{filled}
+use Rattle.slots.proofs.Unused.{blanked}
 use Rattle.slots.proofs.blank.Goals as goal
 
-pub loop-i-init : goal.loop-i-init
-loop-i-init c = search blanking_none
-
-pub clear_slot-requires : goal.clear_slot-requires
-clear_slot-requires c = search blanking_fits
-
-pub bounds-scores-at : goal.bounds-scores-at
-bounds-scores-at c = search (rules, blanking_score)
-
-pub loop-i-preserved : goal.loop-i-preserved
-loop-i-preserved c = search blanking_more
-
 pub returns : goal.returns
-returns c = search blanking_all
+unfolding of_bits
+returns c =
+    let v = c.args.v in
+    let a = c.args.from in
+    let n = c.args.n in
+    blanked c.requires.0 c.requires.1
+    (filled c.args.kept.now 0 (a * v) ((a + n) * v) (n * v) (add-mul a n v) c.requires.0 (c.fill.ensures.after (λ y e. e)))
+    (filled c.args.scores.now zero_score a (a + n) n refl c.requires.1 (c.fill-2.ensures.after (λ y e. e)))

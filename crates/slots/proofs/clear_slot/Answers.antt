@@ -1,19 +1,8 @@
-use borrow.Author.Rules.{rules}
+use Rattle.std.proofs.Common.{◌*◌, ◌+◌, refl}
 use Rattle.slots.specs.Inner.{put_slot}
+use Rattle.slots.proofs.Words.{filled}
 use Rattle.slots.proofs.clear_slot.Goals as goal
-
-pub overflow_mul-a : goal.overflow_mul-a
-unfolding put_slot
-overflow_mul-a c = search rules
-
-pub clear_words-requires : goal.clear_words-requires
-unfolding put_slot
-clear_words-requires c = search rules
-
-pub shape_of-kept : goal.shape_of-kept
-unfolding put_slot
-shape_of-kept c = search rules
 
 pub returns : goal.returns
 unfolding put_slot
-returns c = search rules
+returns c = filled c.args.kept.now 0 (c.args.slot * c.args.v) (c.args.slot * c.args.v + c.args.v) c.args.v refl c.requires (c.fill.ensures.after (λ y e. e))

@@ -1,18 +1,13 @@
-use borrow.Author.Rules.{rules}
-use Rattle.slots.proofs.Unused.{looking_none, looking_more, looking_found, looking_fits, looking_all}
+use Rattle.std.proofs.Common.{◌+◌, refl, arith, rules, tests}
+use Rattle.std.proofs.lemmas.Iterator.{YieldsList-from_range}
+use Rattle.std.proofs.lemmas.Iterator.Search.{any_from_yields_List}
+use Rattle.slots.specs.Inner.{same_words, slot_at}
+use Rattle.slots.proofs.Unused.{looked_all}
 use Rattle.slots.proofs.holds.Goals as goal
 
-pub loop-i-init : goal.loop-i-init
-loop-i-init c = search looking_none
-
-pub same_slot-requires : goal.same_slot-requires
-same_slot-requires c = (search looking_fits, search (looking_fits, rules))
-
-pub returns-then-same_slot : goal.returns-then-same_slot
-returns-then-same_slot c = search looking_found
-
-pub loop-i-preserved : goal.loop-i-preserved
-loop-i-preserved c = search looking_more
-
 pub returns : goal.returns
-returns c = search looking_all
+returns c =
+    let xs = c.args.kept.now in
+    let ws = slot_at c.args.v xs c.args.spare in
+    looked_all c.args.v c.args.count xs ws
+    (any_from_yields_List (λ i. same_words (slot_at c.args.v xs (i + 1)) ws) _ _ c.any.result c.any.ensures.ran (YieldsList-from_range 0 c.args.count c.args.count refl (omega arith)) (λ i b q k. search (rules, tests)))

@@ -1,19 +1,8 @@
-use borrow.Author.Rules.{rules}
+use Rattle.std.proofs.Common.{◌*◌}
 use Rattle.slots.specs.Inner.{slot_at}
+use Rattle.slots.proofs.Words.{compared}
 use Rattle.slots.proofs.same_slot.Goals as goal
-
-pub overflow_mul-i : goal.overflow_mul-i
-unfolding slot_at
-overflow_mul-i c = search rules
-
-pub overflow_mul-j : goal.overflow_mul-j
-unfolding slot_at
-overflow_mul-j c = search rules
-
-pub same_words-requires : goal.same_words-requires
-unfolding slot_at
-same_words-requires c = search rules
 
 pub returns : goal.returns
 unfolding slot_at
-returns c = search rules
+returns c = compared c.args.kept.now (c.args.a * c.args.v) (c.args.b * c.args.v) c.args.v c.eq.ensures

@@ -4,8 +4,8 @@ use Rattle.spell.proofs.slot_at.Goals as goal
 pub loop-i-init : goal.loop-i-init
 loop-i-init c = search slots_start
 
-pub count_at-left-requires : goal.count_at-left-requires
-count_at-left-requires c = search slots_room
+pub count_at-requires : goal.count_at-requires
+count_at-requires c = search slots_room
 
 pub loop-i-preserved : goal.loop-i-preserved
 loop-i-preserved c = search slots_more

@@ -3,10 +3,10 @@ use Rattle.spell.proofs.Answers.{spell-answer, spell-out, spell_refused, spell_u
 use Rattle.spell.proofs.spell.Goals as goal
 
 pub spell_accepted-requires : goal.spell_accepted-requires
-spell_accepted-requires c = search accepted_told
+spell_accepted-requires c = accepted_told _ _ c.in-Ok.ensures
 
-pub returns-in-Good : goal.returns-in-Good
-returns-in-Good c = record { value = search spell-answer; out_after = search spell-out }
+pub returns-in-Ok : goal.returns-in-Ok
+returns-in-Ok c = record { value = search spell-answer; out_after = search spell-out }
 
-pub returns-in-Refused : goal.returns-in-Refused
-returns-in-Refused c = record { value = search spell_refused; out_after = search spell_untouched }
+pub returns-in-Err : goal.returns-in-Err
+returns-in-Err c = record { value = search spell_refused; out_after = search spell_untouched }

@@ -1,14 +1,14 @@
-use Rattle.storage.proofs.OrderLaws.{before_turned, before_turn, before_more, before_less}
+use Rattle.storage.proofs.OrderLaws.{before_less, before_more, before_forward, before_reverse}
 use Rattle.storage.proofs.is_before_at.Goals as goal
 
-pub returns-then-here-anchor : goal.returns-then-here-anchor
-returns-then-here-anchor c = search before_less
+pub returns-in-Less : goal.returns-in-Less
+returns-in-Less c = before_less _ _ _ _ c.anchor_at.ensures c.in-Less.ensures
 
-pub returns-then-anchor-here : goal.returns-then-anchor-here
-returns-then-anchor-here c = search before_more
+pub returns-then-reverse : goal.returns-then-reverse
+returns-then-reverse c = before_reverse _ _ _ _ c.anchor_at.ensures c.in-Equal.ensures _ c.reverse_at.ensures c.if-reverse.true
 
-pub returns-then-turned : goal.returns-then-turned
-returns-then-turned c = search before_turned
+pub returns-else-reverse : goal.returns-else-reverse
+returns-else-reverse c = before_forward _ _ _ _ c.anchor_at.ensures c.in-Equal.ensures c.if-reverse.false
 
-pub returns-else-turned : goal.returns-else-turned
-returns-else-turned c = search before_turn
+pub returns-in-Greater : goal.returns-in-Greater
+returns-in-Greater c = before_more _ _ _ _ c.anchor_at.ensures c.in-Greater.ensures

@@ -1,12 +1,8 @@
-use native.Mathlib.Omega.{arith}
-use Rattle.storage.proofs.OrderLaws.{leads_greater, leads_less, leads_next}
+use Rattle.std.proofs.Common.{◌≡◌, ◌+◌, ◌-◌, ◌∙◌, length, take, drop, arith}
+use Rattle.storage.proofs.OrderLaws.{word_cmp}
 use Rattle.storage.proofs.letters_order.Goals as goal
 
-pub returns-then-x-y : goal.returns-then-x-y
-returns-then-x-y c = leads_less _ _ _ c.requires _ _ _ (let n = c.loop-i.invariant.0 in let l = c.loop-i.invariant.1 in let t = c.loop-i-test.true in omega arith) c.lead_at-x.ensures c.lead_at-y.ensures c.loop-i.invariant.2 c.if-x-y.true
-
-pub returns-then-y-x : goal.returns-then-y-x
-returns-then-y-x c = leads_greater _ _ _ c.requires _ _ _ (let n = c.loop-i.invariant.0 in let l = c.loop-i.invariant.1 in let t = c.loop-i-test.true in omega arith) c.lead_at-x.ensures c.lead_at-y.ensures c.loop-i.invariant.2 c.if-y-x.true
-
-pub loop-i-preserved : goal.loop-i-preserved
-loop-i-preserved c = (c.loop-i.invariant.0, (let n = c.loop-i.invariant.0 in let l = c.loop-i.invariant.1 in let t = c.loop-i-test.true in omega arith), leads_next _ _ _ c.requires _ _ _ (let n = c.loop-i.invariant.0 in let l = c.loop-i.invariant.1 in let t = c.loop-i-test.true in omega arith) c.lead_at-x.ensures c.lead_at-y.ensures c.loop-i.invariant.2 c.if-x-y.false c.if-y-x.false)
+pub returns : goal.returns
+returns c =
+    let cut : c.args.at + length c.args.word.now - c.args.at ≡ length c.args.word.now = omega arith in
+    c.cmp.ensures ∙ rw cut (word_cmp (take (length c.args.word.now) (drop c.args.at c.args.image.now)) c.args.word.now)

@@ -11,9 +11,3 @@ invariant-loop-step l = Cut (word_up_to (padded l.word l.k)) (each (port_of l.k)
 
 abbrev pub decreases-loop-step : goal.decreases-loop-step
 decreases-loop-step l = l.hi - l.lo
-
-abbrev pub invariant-loop-lo : goal.invariant-loop-lo
-invariant-loop-lo l = Cut (word_up_to (padded l.word l.k)) (each (port_of l.k) (record_size l.k) l.n (drop l.base l.image)) no_port l.n l.lo l.hi
-
-abbrev pub decreases-loop-lo : goal.decreases-loop-lo
-decreases-loop-lo l = l.hi - l.lo

@@ -1,5 +1,6 @@
-use Rattle.storage.proofs.Laws.{number_at}
+use Rattle.std.proofs.Common.{◌∙◌}
+use Rattle.storage.proofs.Laws.{number_at, le_bytes}
 use Rattle.storage.proofs.word_at.Goals as goal
 
 pub returns : goal.returns
-returns c = search number_at
+returns c = number_at c.args.image.now c.args.at c.from_le_bytes.result c.requires (c.from_le_bytes.ensures ∙ le_bytes c.args.image.now c.args.at)

@@ -5,11 +5,11 @@ use Rattle.text.proofs.put_digits.Goals as goal
 pub loop-i-init : goal.loop-i-init
 loop-i-init c = search (rules, counting_start)
 
-pub returns-then-rest-lt10 : goal.returns-then-rest-lt10
-returns-then-rest-lt10 c = search counting_last
+pub returns-then-rest-lt10-clause-said : goal.returns-then-rest-lt10-clause-said
+returns-then-rest-lt10-clause-said c = search counting_last
 
 pub loop-i-preserved : goal.loop-i-preserved
 loop-i-preserved c = search counting_next
 
-pub returns : goal.returns
-returns c = search counting_ends
+pub returns-clause-said : goal.returns-clause-said
+returns-clause-said c = search counting_ends

@@ -1,33 +1,38 @@
-use borrow.Author.Rules.{rules}
-use Rattle.texts.proofs.Putting.{putting_start, putting_lined, hold_to, hold_count, hold_routes, hold_head, hold_times, hold_words, hold_sum, hold_next, putting_ends, putting_same}
+use Rattle.std.proofs.Common.{refl, ◌∙◌}
+use Rattle.texts.proofs.LineLaws.{text_lined, line_same}
+use Rattle.texts.proofs.Putting.{putting_start, hold_to, hold_count, hold_routes, hold_head, hold_words, hold_next, putting_ends}
 use Rattle.texts.proofs.put_lines.Goals as goal
 
-pub loop-at-init : goal.loop-at-init
-loop-at-init c = search putting_start
+pub of-l-items-requires : goal.of-l-items-requires
+of-l-items-requires c = text_lined _ c.requires.good
 
-pub line_at-l-requires : goal.line_at-l-requires
-line_at-l-requires c = (search rules, search putting_lined, search rules)
+pub loop-l-init : goal.loop-l-init
+loop-l-init c =
+    let e = c.into_iter-l-iterator.ensures.into_iter_gives in
+    let o = c.of-l-items.ensures in
+    (rw (e, o.2) (putting_start c.requires), rw e o.0, rw e o.1)
 
-pub place_for-p-requires : goal.place_for-p-requires
-place_for-p-requires c = (search hold_to, search hold_count, search hold_routes)
+pub place_for-place-requires : goal.place_for-place-requires
+place_for-place-requires c =
+    let i = c.loop-l.invariant in
+    let d = line_same i.1 i.2 c.in-Some.ensures.steps.2.1 in
+    (hold_to i.0 _ d, hold_count i.0 _ d, hold_routes i.0 _ d)
 
-pub offset_bounds-room-head : goal.offset_bounds-room-head
-offset_bounds-room-head c = search hold_times
-
-pub bounds-room-head : goal.bounds-room-head
-bounds-room-head c = search hold_head
+pub bounds-room-place : goal.bounds-room-place
+bounds-room-place c =
+    let i = c.loop-l.invariant in
+    hold_head i.0 _ (line_same i.1 i.2 c.in-Some.ensures.steps.2.1) _ c.place_for-place.ensures
 
 pub put_segment-requires : goal.put_segment-requires
-put_segment-requires c = search hold_words
+put_segment-requires c =
+    let i = c.loop-l.invariant in
+    hold_words i.0 _ (line_same i.1 i.2 c.in-Some.ensures.steps.2.1) _ c.place_for-place.ensures _ _
 
-pub overflow_add-to : goal.overflow_add-to
-overflow_add-to c = search hold_sum
-
-pub loop-at-preserved : goal.loop-at-preserved
-loop-at-preserved c = (search hold_next, search rules)
-
-pub shape_of-room : goal.shape_of-room
-shape_of-room c = search putting_same
+pub loop-l-preserved : goal.loop-l-preserved
+loop-l-preserved c =
+    let i = c.loop-l.invariant in
+    let s = c.in-Some.ensures.steps in
+    (rw s.2.2 (hold_next i.0 _ (line_same i.1 i.2 s.2.1) _ c.place_for-place.ensures _ c.put_segment.ensures), s.0 ∙ i.1, s.1 ∙ i.2)
 
 pub returns : goal.returns
-returns c = search putting_ends
+returns c = let i = c.loop-l.invariant in putting_ends i.0 _ refl (rw (← i.2) c.in-None.ensures.steps.2)

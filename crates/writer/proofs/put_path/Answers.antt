@@ -14,8 +14,8 @@ add_piece-p-requires c = (search piece_roomy, search rules)
 pub loop-i-preserved : goal.loop-i-preserved
 loop-i-preserved c = search writing_next
 
-pub add_segment-q-requires : goal.add_segment-q-requires
-add_segment-q-requires c = search last_roomy
+pub add_segment-requires : goal.add_segment-requires
+add_segment-requires c = search last_roomy
 
 pub returns : goal.returns
 returns c = search written_done

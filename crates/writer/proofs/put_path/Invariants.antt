@@ -1,9 +1,5 @@
 use Rattle.writer.proofs.Laws.{Writing}
-use Prim.Native.Nat.{◌-◌}
 use Rattle.writer.proofs.put_path.Given as goal
 
 abbrev pub invariant-loop-i : goal.invariant-loop-i
 invariant-loop-i l = Writing l.family l.frames l.top l.s l.initial.slot l.slot l.p l.i
-
-abbrev pub decreases-loop-i : goal.decreases-loop-i
-decreases-loop-i l = l.top - l.i

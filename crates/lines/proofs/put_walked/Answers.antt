@@ -1,5 +1,0 @@
-use Rattle.lines.proofs.Laws.{three_put}
-use Rattle.lines.proofs.put_walked.Goals as goal
-
-pub returns : goal.returns
-returns c = search three_put

@@ -1,8 +1,0 @@
-use Rattle.overlap.proofs.ChainLaws.{outside_behind, outside_else}
-use Rattle.overlap.proofs.is_outside.Goals as goal
-
-pub returns-then-is_up_to : goal.returns-then-is_up_to
-returns-then-is_up_to c = search outside_behind
-
-pub returns-else-is_up_to : goal.returns-else-is_up_to
-returns-else-is_up_to c = search outside_else
