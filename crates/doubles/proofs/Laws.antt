@@ -1,52 +1,90 @@
 -- What the code's tests on doubles come to, over plain variables.
 use mathlib.Core.Path.{◌≡◌, refl, sym, ap, ◌∙◌, subst}
-use Prim.Native.Nat.{ℕ, zero, suc, ◌*◌, ◌%◌, ◌≤◌, ◌<◌}
+use Prim.Native.Nat.{ℕ, ◌+◌, ◌-◌, ◌*◌, ◌%◌, ◌≤◌, ◌<◌}
 use native.Mathlib.Omega.{arith}
-use mathlib.Core.Bool.{Bool, true, false, cond, true≢false}
-use lib.Dec.{T}
-use lib.Ieee.{Float, nan, inf, fin, binary64, is_nan, fits, to_bits, of_bits, neg}
-use lib.Ieee.Bits.{of_bits-to_bits, to_bits-lt, nan_bits_is, nan_bits_above}
+use mathlib.Core.Bool.{Bool, true, false, not, cond, true≢false}
+use lib.Dec.{T, ltb, eqb, ltb→lt, nltb→le, T_not, eqb_refl}
+use lib.Ieee as Ieee
+use lib.Ieee.{Float, nan, inf, fin, binary64, up, down, is_nan, fits, to_bits, of_bits, nan_bits}
+use lib.Ieee.Bits.{is_true, is_false, of_bits-to_bits, to_bits-lt, nan_bits_is, nan_bits_above}
 use lib.Ieee.Scale.{finite}
-use borrow.Author.Tests.{ltb-false, lt-ltb}
-use Rattle.std.specs.Float as Std
-use Rattle.std.specs.Float.{float_is_finite}
-use Rattle.std.proofs.lemmas.Bool.Decides.{nat_tests}
-use Rattle.doubles.specs.NextDouble.{infinity, minus_zero, pattern_up, next_up, next_down}
+use borrow.Author.Tests.{ltb-false, lt-ltb, le-ltb, eq-eqb, ne_eqb}
+use Rattle.doubles.specs.NextDouble.{infinity, minus_zero, pattern_up, next_up}
 
--- ---- the library's words
-pub finite_is : (x : Float) → float_is_finite x ≡ finite x
-unfolding float_is_finite
-finite_is nan = refl
-finite_is (inf s) = refl
-finite_is (fin s m e) = refl
-
-cond_else : (t : Bool) (x a b : Float) → (t ≡ false → a ≡ b) → cond t x a ≡ cond t x b
-cond_else true x a b h = refl
-cond_else false x a b h = h refl
-
--- of a pattern that is no NaN's
-bits_up : (x : Float) (b : ℕ) → of_bits binary64 b ≡ x → b % minus_zero ≤ infinity → b < 2 * minus_zero → Std.next_up_by_bits binary64 x b ≡ of_bits binary64 (pattern_up b)
+-- ---- the pattern's ways past the finite doubles above 0
+pub at_infinity : (b : ℕ) → infinity ≤ b → b ≡ infinity → b ≡ pattern_up b
 unfolding pattern_up
-bits_up x b e h w = grind (arith, nat_tests, e)
+at_infinity b h k = rw (le-ltb b infinity h, eq-eqb b infinity k)
 
-pub next_up_is : (x : Float) → fits binary64 x ≡ true → Std.next_up binary64 x ≡ next_up x
+pub at_zero : (b : ℕ) → infinity ≤ b → (b ≡ infinity → ⊥) → b ≡ minus_zero → 1 ≡ pattern_up b
+unfolding pattern_up
+at_zero b h k l = rw (le-ltb b infinity h, ne_eqb b infinity k, eq-eqb b minus_zero l)
+
+pub at_minus : (b : ℕ) → infinity ≤ b → (b ≡ infinity → ⊥) → (b ≡ minus_zero → ⊥) → b - 1 ≡ pattern_up b
+unfolding pattern_up
+at_minus b h k l = rw (le-ltb b infinity h, ne_eqb b infinity k, ne_eqb b minus_zero l)
+
+-- ---- `x == x` is that x is no NaN
+self_eq : (x : Float) → Ieee.eq x x ≡ not (is_nan x)
+unfolding Ieee.eq is_nan
+self_eq nan = refl
+self_eq (inf true) = refl
+self_eq (inf false) = refl
+self_eq (fin true m e) = rw (is_true (eqb (m * up e * down e) (m * up e * down e)) (eqb_refl (m * up e * down e)))
+self_eq (fin false m e) = rw (is_true (eqb (m * up e * down e) (m * up e * down e)) (eqb_refl (m * up e * down e)))
+
+pub number : (x : Float) → Ieee.eq x x ≡ true → T (not (is_nan x))
+number x h = subst T (sym h ∙ self_eq x) tt
+
+pub next_number : (x : Float) → Ieee.eq x x ≡ true → of_bits binary64 (pattern_up (to_bits binary64 x)) ≡ next_up x
 unfolding next_up
-next_up_is x f =
+next_number x h = rw (is_false (is_nan x) (number x h))
+
+pub next_nan : (x : Float) → Ieee.eq x x ≡ false → x ≡ next_up x
+unfolding next_up is_nan
+next_nan x h = go x (sym (self_eq x) ∙ h)
+  where
+    go : (x : Float) → not (is_nan x) ≡ false → x ≡ next_up x
+    go nan h = refl
+    go (inf s) h = absurd (true≢false h)
+    go (fin s m e) h = absurd (true≢false h)
+
+-- ---- a step up from a pattern that is no NaN's reaches none; the sign's weight is the pattern of -0.0
+below_nan : (b : ℕ) → b < 2 * minus_zero → b % minus_zero ≤ infinity → pattern_up b % minus_zero ≤ infinity
+unfolding pattern_up
+below_nan b w h = go (ltb b infinity) (eqb b infinity) (eqb b minus_zero) (ltb→lt b infinity) (nltb→le b infinity) (λ t. ne→ b infinity t) (λ t. ne→ b minus_zero t)
+  where
+    ne→ : (a c : ℕ) → T (not (eqb a c)) → a ≡ c → ⊥
+    ne→ a c t e = T_not (eqb a c) t (subst (λ (z : ℕ). T (eqb a z)) e (eqb_refl a))
+
+    go : (x y z : Bool) → (T x → b < infinity) → (T (not x) → infinity ≤ b) → (T (not y) → b ≡ infinity → ⊥) → (T (not z) → b ≡ minus_zero → ⊥)
+        → cond x (b + 1) (cond y b (cond z 1 (b - 1))) % minus_zero ≤ infinity
+    go true y z p q r s = let k = p tt in omega arith
+    go false true z p q r s = h
+    go false false true p q r s = omega arith
+    go false false false p q r s = let k = q tt in let l = r tt in let m = s tt in omega arith
+
+pub pattern_number : (x : Float) → T (fits binary64 x) → T (not (is_nan x)) → T (not (nan_bits binary64 (pattern_up (to_bits binary64 x))))
+pattern_number x f h =
     let b = to_bits binary64 x in
-    let t : T (fits binary64 x) = subst T (sym f) tt in
-    let e : of_bits binary64 b ≡ x = of_bits-to_bits binary64 x t in
-    cond_else (is_nan x) x _ _ (λ n. bits_up x b e (ltb-false infinity (b % minus_zero) (sym (nan_bits_above binary64 b) ∙ nan_bits_is binary64 b ∙ ap is_nan e ∙ n)) (to_bits-lt binary64 x t))
+    let no : nan_bits binary64 b ≡ false = nan_bits_is binary64 b ∙ ap is_nan (of_bits-to_bits binary64 x f) ∙ is_false (is_nan x) h in
+    let most : b % minus_zero ≤ infinity = ltb-false infinity (b % minus_zero) (sym (nan_bits_above binary64 b) ∙ no) in
+    subst (λ (t : Bool). T (not t)) (sym (nan_bits_above binary64 (pattern_up b) ∙ le-ltb infinity (pattern_up b % minus_zero) (below_nan b (to_bits-lt binary64 x f) most))) tt
 
-fits_neg : (x : Float) → fits binary64 (neg x) ≡ fits binary64 x
-unfolding fits neg
-fits_neg nan = refl
-fits_neg (inf s) = refl
-fits_neg (fin s zero e) = refl
-fits_neg (fin s (suc m) e) = refl
+-- ---- finite: strictly between the infinities
+pub below_top : (x : Float) → Ieee.lt (inf true) x ≡ true → Ieee.lt x (inf false) ≡ finite x
+unfolding Ieee.lt
+below_top nan h = refl
+below_top (inf true) h = sym h
+below_top (inf false) h = refl
+below_top (fin s m e) h = refl
 
-pub next_down_is : (x : Float) → fits binary64 x ≡ true → Std.next_down binary64 x ≡ next_down x
-unfolding next_down
-next_down_is x f = ap neg (next_up_is (neg x) (fits_neg x ∙ f))
+pub at_bottom : (x : Float) → Ieee.lt (inf true) x ≡ false → false ≡ finite x
+unfolding Ieee.lt
+at_bottom nan h = refl
+at_bottom (inf true) h = refl
+at_bottom (inf false) h = refl
+at_bottom (fin s m e) h = sym h
 
 -- ---- bits that are a NaN's
 only_nan : (x : Float) → is_nan x ≡ true → nan ≡ x

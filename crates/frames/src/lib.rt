@@ -89,12 +89,15 @@ pub fn piece_at(frames: &[u64], i: usize) -> evaluate::Segment
     }
 }
 
-// Whether two segments share no base.
+// Whether two segments share no base: on one path most are of other lanes, so this is asked first, and left.
 #[tactic(auto, unfolding(crate::specs::Inner::apart_from))]
 fn are_apart(s: evaluate::Segment, t: evaluate::Segment) -> bool
     ensures { result ≡ apart_from s t }
 {
-    s.source != t.source || t.end <= s.start || s.end <= t.start
+    if s.source != t.source {
+        return true;
+    }
+    t.end <= s.start || s.end <= t.start
 }
 
 // Whether a segment shares no base with the pieces that lead up to frame n.

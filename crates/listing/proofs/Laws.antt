@@ -1,17 +1,46 @@
 -- Laws of the listing's evaluation.
-use Prim.Native.Nat.{ℕ, ◌+◌, ◌-◌, ◌≤◌, ◌<◌}
+use Prim.Native.Nat.{ℕ, suc, ◌+◌, ◌-◌, ◌≤◌, ◌<◌}
+use native.Mathlib.Numerals.{add-one}
 use native.Mathlib.Omega.{arith}
 use mathlib.Core.Path.{◌≡◌, refl, sym, ap, ◌∙◌}
 use mathlib.Core.Bool.{true, false}
 use mathlib.Core.List.{List, [], ◌∷◌, ◌++◌, append_assoc}
-use lib.ListN.{length, take, drop, length-append, length-drop}
-use lib.Seq.{take_at, drop_at, drop-drop, length-take-le}
+use lib.ListN.{length, set, get_or, take, drop, length-append, length-set, length-drop, take-append-drop}
+use lib.Seq.{take_at, drop_at, set_at, drop-drop, drop-cons, length-take-le, take-suc}
 use borrow.Author.Tests.{le-leb, lt-leb}
-use borrow.Rule.Slice.PartMut.{put_mid}
 use Rattle.evaluate.specs.Segments.{flat}
 use Rattle.search.specs.Answers.{fitting}
 use Rattle.listing.specs.declared.Listing.{Listing}
 use Rattle.listing.specs.Inner.{to_list, lists_from, Handed}
+
+-- ---- copying
+
+-- the first i words are copied to a place
+pub record Copying (os ws : List ℕ) (at n : ℕ) (xs : List ℕ) (i : ℕ) : Type 0 where
+  pub room : xs ≡ take at os ++ (take i ws ++ drop (at + i) os)
+  pub within : i ≤ n
+  pub long : length xs ≡ length os
+
+pub copying_start : (os ws : List ℕ) (at n : ℕ) → Copying os ws at n os 0
+copying_start os ws at n = let e : at + 0 ≡ at = omega arith in record { room = rw e (sym (take-append-drop at os)); within = omega arith; long = refl }
+
+pub copying_next : (os ws : List ℕ) (at n : ℕ) (xs : List ℕ) (i : ℕ) → Copying os ws at n xs i → i < n → at + n ≤ length os → n ≤ length ws → Copying os ws at n (set xs (at + i) (get_or ws i 0)) (i + 1)
+copying_next os ws at n xs i k lt fits few =
+    let front : length (take at os) ≡ at = length-take-le at os (omega arith) in
+    let middle : length (take i ws) ≡ i = length-take-le i ws (omega arith) in
+    let here : length (take at os ++ take i ws) ≡ at + i = length-append (take at os) (take i ws) ∙ rw (front, middle) in
+    let cut : drop (at + i) os ≡ get_or os (at + i) 0 ∷ drop (suc (at + i)) os = drop-cons os (at + i) 0 (omega arith) in
+    let more : take (suc i) ws ≡ take i ws ++ (get_or ws i 0 ∷ []) = take-suc ws i 0 (omega arith) in
+    let past : at + suc i ≡ suc (at + i) = omega arith in
+    let shape : xs ≡ (take at os ++ take i ws) ++ (get_or os (at + i) 0 ∷ drop (suc (at + i)) os) = k.room ∙ rw cut (sym (append_assoc (take at os) (take i ws) (get_or os (at + i) 0 ∷ drop (suc (at + i)) os))) in
+    let stored : set xs (at + i) (get_or ws i 0) ≡ (take at os ++ take i ws) ++ (get_or ws i 0 ∷ drop (suc (at + i)) os) =
+    ap (λ (l : List ℕ). set l (at + i) (get_or ws i 0)) shape ∙ set_at (take at os ++ take i ws) (get_or os (at + i) 0) (drop (suc (at + i)) os) (get_or ws i 0) (at + i) here in
+    let regroup : (take at os ++ take i ws) ++ (get_or ws i 0 ∷ drop (suc (at + i)) os) ≡ take at os ++ ((take i ws ++ (get_or ws i 0 ∷ [])) ++ drop (suc (at + i)) os) = simp append_assoc in
+    let l = k.long in
+    record { room = rw add-one (stored ∙ regroup ∙ rw (more, past)); within = omega arith; long = length-set xs (at + i) (get_or ws i 0) ∙ l }
+
+pub copying_done : (os ws : List ℕ) (at n : ℕ) (xs : List ℕ) (i : ℕ) → Copying os ws at n xs i → n ≤ i → xs ≡ take at os ++ (take n ws ++ drop (at + n) os)
+copying_done os ws at n xs i k le = let o = k.within in let e : i ≡ n = omega arith in rw (← e) k.room
 
 -- ---- an evaluation
 
@@ -75,14 +104,8 @@ module _ (slot xs : List ℕ) (l : Listing) (n : ℕ) (enough : n ≤ length slo
   pub give_over : length xs - l.words < n → Handed (take n slot) xs xs l (record { skip = l.skip; full = true; written = l.written; words = l.words })
   give_over h = handed-over (take n slot) xs l low few unfilled now-due (rw size h)
 
-  give_fits : (ys : List ℕ) → n ≤ length xs - l.words → 0 < n → ys ≡ take l.words xs ++ (take n slot ++ drop (l.words + n) xs)
+  pub give_fits : (ys : List ℕ) → n ≤ length xs - l.words → 0 < n → ys ≡ take l.words xs ++ (take n slot ++ drop (l.words + n) xs)
       → Handed (take n slot) xs ys l (record { skip = l.skip; full = l.full; written = l.written + 1; words = l.words + n })
   give_fits ys h some e =
       let e2 : ys ≡ take l.words xs ++ (take n slot ++ drop (l.words + length (take n slot)) xs) = rw size e in
       rw size at (handed_fits (take n slot) xs l low few unfilled now-due ys (rw size h) (rw size some) e2)
-
-  pub give_copied : (ys : List ℕ) → n ≤ length xs - l.words → 0 < n → ys ≡ take n slot
-      → Handed (take n slot) xs (put_mid l.words (l.words + n - l.words) xs ys) l (record { skip = l.skip; full = l.full; written = l.written + 1; words = l.words + n })
-  give_copied ys h some e =
-      let k : l.words + n - l.words ≡ n = omega arith in
-      give_fits (put_mid l.words (l.words + n - l.words) xs ys) h some (rw (e, k, drop-drop n l.words xs))

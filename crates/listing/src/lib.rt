@@ -1,7 +1,7 @@
 // The listing: the walk without scores; an assignment's words go to out, if their turn has come and they fit.
 #![tactic(auto)]
 
-ghost use Rattle.std.specs.Prelude.{◌≡◌, false, ◌*◌, ◌-◌, ◌≤◌, ◌<◌, length, take};
+ghost use Rattle.std.specs.Prelude.{◌≡◌, false, ◌++◌, ◌+◌, ◌*◌, ◌-◌, ◌≤◌, ◌<◌, length, take, drop};
 ghost use Rattle.image.specs.Inner.{Groups, Started};
 ghost use Rattle.image.specs.Panel.{panel_of};
 ghost use Rattle.panel.specs.Inner.{Accepted};
@@ -46,6 +46,16 @@ pub struct Seeded {
 
 // ---- one evaluation
 
+// The first n words, put at a place: one by one, since a copy of slices makes the archive ask for memmove.
+fn copy_words(out: &mut [u64], at: usize, words: &[u64], n: usize)
+    requires { (at + n ≤ length out.old) × (n ≤ length words.now) }
+    ensures { out.new ≡ take at out.old ++ (take n words.now ++ drop (at + n) out.old) }
+{
+    for i in 0..n {
+        out[at + i] = words[i];
+    }
+}
+
 // An evaluation is handed over: the first n words of the slot.
 pub fn hand_over(out: &mut [u64], l: Listing, slot: &[u64], n: usize) -> Listing
     requires { (n ≤ length slot.now) × (l.words ≤ length out.old) × (l.written ≤ l.words) × (0 < n) }
@@ -64,7 +74,7 @@ pub fn hand_over(out: &mut [u64], l: Listing, slot: &[u64], n: usize) -> Listing
         return Listing { full: true, ..l };
     }
     let words = l.words + n;
-    out[l.words..words].copy_from_slice(&slot[..n]);
+    copy_words(out, l.words, slot, n);
     Listing {
         written: l.written + 1,
         words,

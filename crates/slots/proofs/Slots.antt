@@ -1,5 +1,6 @@
 -- A room of words as slots of v words, and with a list of scores as a list of scored words.
 use mathlib.Core.Path.{◌≡◌, refl, ap, ◌∙◌}
+use mathlib.Core.Logic.{◌⊎◌, inl, inr, ⊎_elim}
 use mathlib.Core.List.{List, [], ◌∷◌, ◌++◌, append_assoc}
 use Prim.Native.Nat.{ℕ, zero, suc, ◌+◌, ◌-◌, ◌*◌, ◌≤◌, ◌<◌}
 use native.Mathlib.Nat.{suc-mul, zero-mul, mul-le-mul_right, le_trans, not-suc-le-zero, le_of_suc-le-suc}
@@ -13,6 +14,15 @@ use Rattle.slots.proofs.Words.{length_part, length_splice}
 -- ---- numbers
 pub slot_fits : (i n v l : ℕ) → i < n → n * v ≤ l → i * v + v ≤ l
 slot_fits i n v l h k = le_trans (rw suc-mul at (mul-le-mul_right v h)) k
+
+two_ways : (a b : ℕ) → (b ≤ a) ⊎ (a < b)
+two_ways a zero = inl (omega arith)
+two_ways zero (suc b) = inr (omega arith)
+two_ways (suc a) (suc b) = ⊎_elim (λ h. inl (omega arith)) (λ h. inr (omega arith)) (two_ways a b)
+
+-- For the reader: two slots are one, or lie apart
+pub slots_apart : (from to v : ℕ) → (to * v ≤ from * v) ⊎ (from * v + v ≤ to * v)
+slots_apart from to v = ⊎_elim (λ h. inl (mul-le-mul_right v h)) (λ h. inr (slot_fits from to v (to * v) h (omega arith))) (two_ways from to)
 
 -- ---- a slot, one on
 pub length_slot : (v : ℕ) (xs : List ℕ) (i : ℕ) → i * v + v ≤ length xs → length (slot_at v xs i) ≡ v
